@@ -1,0 +1,3 @@
+pub mod PairsLemmas
+pub mod HeaderLemmas
+pub mod WalkLemmas

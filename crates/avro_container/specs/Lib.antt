@@ -1,0 +1,6 @@
+pub mod Refusal
+pub mod Header
+pub mod Block
+pub mod Container
+pub mod Walk
+pub mod Format

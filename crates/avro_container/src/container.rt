@@ -1,0 +1,28 @@
+//! A container as plain data.
+
+use avro_wire::{Bytes, Text};
+use sqlite_items::Items;
+
+/// The pairs of a header in file order: what `avro.schema`, `avro.codec` and other names are bound to.
+pub type Meta = Items<(Text, Bytes)>;
+
+/// The blocks of a container in file order.
+pub type Blocks = Items<Block>;
+
+/// One block: how many objects it has, and their bytes.
+#[derive(Debug, Drop)]
+pub struct Block {
+    /// The number of objects, not below 0.
+    pub count: i64,
+    /// The objects, one after the other.
+    pub bytes: Bytes,
+}
+
+/// A container. Avro spec, "Object Container Files".
+#[derive(Debug, Drop)]
+pub struct Container {
+    pub meta: Meta,
+    /// The marker that stands behind the header and behind each block.
+    pub sync: [u8; 16],
+    pub blocks: Blocks,
+}

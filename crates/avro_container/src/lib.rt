@@ -1,0 +1,25 @@
+//! Avro object container files: what their bytes hold.
+//!
+//! | Module | What it has |
+//! |---|---|
+//! | `refusal` | why bytes are no container |
+//! | `container` | a container as plain data |
+//! | `pairs` | the pairs of a header, with distinct keys |
+//! | `header` | reading the magic bytes, the header's map and the marker |
+//! | `block` | reading one block |
+//! | `walk` | the whole framing checked, and its blocks lent one after the other |
+//! | `reading` | a container as plain data, from its bytes |
+#![tactic(auto)]
+
+mod block;
+mod container;
+mod header;
+mod pairs;
+mod reading;
+mod refusal;
+mod walk;
+
+pub use container::{Block, Blocks, Container, Meta};
+pub use reading::read;
+pub use refusal::ContainerRefusal;
+pub use walk::{Walk, open_walk};

@@ -1,0 +1,45 @@
+//! Why bytes are no container.
+
+ghost use Rattle.std.specs.Prelude.{◌≡◌};
+ghost use Rattle.avro_container.specs.declared.refusal.ContainerRefusal.TheVariants.{Memory};
+
+use avro_wire::{Bytes, WireRefusal};
+use std::alloc::{AllocError, AllocFailed};
+
+/// Why bytes are no container: the first cause in the order of the bytes. Places count bytes from 0, blocks from 1.
+#[derive(Debug, Drop)]
+pub enum ContainerRefusal {
+    /// There are more bytes than an object may have. `found` is their number.
+    Limit { found: u64 },
+    /// The first bytes are not those of a container.
+    Magic,
+    /// A number or a key of the header's map is wrong, a key stands twice, or `avro.schema` is absent. `place` is where
+    /// the number or the key's length begins; for an absent schema it is where the marker begins.
+    Header { place: u64 },
+    /// The codec is not `null`. `name` is what the header says.
+    Codec { name: Bytes },
+    /// The input ends inside the item that begins at `place`.
+    Short { place: u64 },
+    /// The block's count or size is negative or too long.
+    Form { block: u64 },
+    /// The block's marker differs from the header's.
+    Sync { block: u64 },
+    /// There was no memory.
+    Memory,
+}
+
+impl From<AllocError> for ContainerRefusal {
+    ghost from_gives = { λ _ e. e ≡ Memory };
+
+    fn from(_e: AllocError) -> ContainerRefusal {
+        ContainerRefusal::Memory
+    }
+}
+
+impl<T: Drop> From<AllocFailed<T>> for ContainerRefusal {
+    ghost from_gives = { λ _ e. e ≡ Memory };
+
+    fn from(_e: AllocFailed<T>) -> ContainerRefusal {
+        ContainerRefusal::Memory
+    }
+}

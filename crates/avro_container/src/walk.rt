@@ -1,0 +1,136 @@
+//! The whole framing of a file checked, and its blocks lent one after the other.
+
+ghost use Rattle.std.specs.Prelude.{◌≡◌, ◌≤◌, [], ◌∷◌, length, IfNone, MatchOption};
+ghost use Rattle.words.specs.Reading.{Gives, never, outcome, map_value};
+ghost use Rattle.avro_container.specs.Refusal.{is_memory};
+ghost use Rattle.avro_container.specs.Block.{blocks_at};
+ghost use Rattle.avro_container.specs.Container.{container_at, walk_of};
+
+use crate::block::{SYNC_BYTES, take_frame};
+use crate::container::Meta;
+use crate::header::{take_header, take_part};
+use crate::refusal::ContainerRefusal;
+use lt_base::OBJECT;
+use std::alloc::Global;
+use std::marker::Model;
+
+/// The blocks of a container, lent one after the other from bytes whose framing was checked whole. Contracts see the
+/// container, and those of its blocks that are left.
+#[derive(Drop)]
+pub struct Walk<'a> {
+    input: &'a [u8],
+    meta: Meta,
+    sync: [u8; 16],
+    /// Where the first block begins.
+    first: usize,
+    /// Where the next block begins.
+    place: usize,
+    /// How many blocks were lent.
+    lent: usize,
+}
+
+impl<'a> Model for Walk<'a> {
+    ghost use Rattle.avro_container.specs.Container.{Walked};
+    ghost use Rattle.avro_container.specs.Walk.{walked_of, IsFramed};
+
+    ghost Value = { Walked };
+
+    ghost view = { λ w. walked_of w.input.now w.meta w.sync w.first w.place w.lent };
+
+    ghost invariant = { λ w. IsFramed w.input.now w.sync w.first w.place w.lent };
+}
+
+/// Whether all that stands from `first` on are whole blocks.
+fn check_blocks(sync: &[u8; 16], input: &[u8], first: usize) -> Result<(), ContainerRefusal>
+    requires { first ≤ length input.now }
+    ensures { Gives never (λ done. done) result
+        (outcome (blocks_at (length input.now) sync.now 1 input.now first)) }
+{
+    let mut place = first;
+    for lent in 0..input.len() {
+        if place >= input.len() {
+            return Ok(());
+        }
+        let (_, after) = take_frame(sync, lent as u64 + 1, input, place)?;
+        place = after;
+    }
+    Ok(())
+}
+
+/// Checks the whole framing of the bytes: the container is there, and its blocks can be lent.
+#[tactic(auto, unfolding(crate::specs::Container::container_at))]
+pub fn open_walk(alloc: Global, input: &[u8]) -> Result<Walk<'_>, ContainerRefusal>
+    ensures exact { Gives is_memory (λ walk. walk) result
+        (map_value walk_of (container_at input.now)) }
+{
+    if input.len() as u64 > OBJECT {
+        return Err(ContainerRefusal::Limit {
+            found: input.len() as u64,
+        });
+    }
+    let (pairs, place) = take_header(alloc, input)?;
+    let first = take_part(input, place, SYNC_BYTES)?;
+    let mut sync = [0; 16];
+    sync.copy_from_slice(&input[place..first]);
+    check_blocks(&sync, input, first)?;
+    Ok(Walk {
+        input,
+        meta: pairs.into_meta(),
+        sync,
+        first,
+        place: first,
+        lent: 0,
+    })
+}
+
+impl<'a> Walk<'a> {
+    ghost use Rattle.avro_container.specs.Container.{Walked};
+
+    /// The header's pairs.
+    pub fn meta(&self) -> &Meta
+        ensures { result.now ≡ self.now.whole.meta }
+    {
+        &self.meta
+    }
+
+    /// The header's marker.
+    pub fn sync(&self) -> [u8; 16]
+        ensures { result ≡ self.now.whole.sync }
+    {
+        self.sync
+    }
+
+    /// The next block: how many objects it has, and their bytes. None where no block is left.
+    pub fn next(&mut self) -> Option<(i64, &'a [u8])>
+        ensures value { MatchOption result (self.old.left ≡ [])
+            (λ block. self.old.left ≡ record { count = block.0; bytes = block.1.now } ∷ self.new.left) }
+        ensures end { IfNone result (self.new ≡ self.old) }
+        ensures whole { self.new.whole ≡ self.old.whole }
+    {
+        if self.place >= self.input.len() {
+            return None;
+        }
+        let number = self.lent as u64 + 1;
+        let Ok((frame, after)) = take_frame(&self.sync, number, self.input, self.place) else {
+            return None;
+        };
+        self.place = after;
+        self.lent += 1;
+        Some((frame.count as i64, &self.input[frame.start..frame.end]))
+    }
+
+    /// Goes back to the first block.
+    pub fn restart(&mut self)
+        ensures { self.new ≡ walk_of self.old.whole }
+    {
+        self.place = self.first;
+        self.lent = 0;
+    }
+
+    /// The header's pairs alone.
+    pub fn into_meta(self) -> Meta
+        ensures { result ≡ self.entry.whole.meta }
+    {
+        self.meta
+    }
+}

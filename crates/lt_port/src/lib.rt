@@ -1,0 +1,25 @@
+//! What the engine asks of the world outside it: traits, and a form of each in memory.
+//!
+//! | Module | What it has |
+//! |---|---|
+//! | `failure` | how a call on the outside fails |
+//! | `source`, `sink` | bytes that come in, bytes that go out |
+//! | `calls` | which calls of a form in memory fail |
+//! | `mem_source`, `mem_sink` | the same in memory, with calls that fail when they are told to |
+#![tactic(auto)]
+
+mod calls;
+mod failure;
+mod mem_sink;
+mod mem_source;
+mod sink;
+mod source;
+
+pub use failure::{Failed, PortError};
+pub use mem_sink::MemSink;
+pub use mem_source::MemSource;
+pub use sink::Sink;
+pub use source::Source;
+
+#[cfg(test)]
+mod tests;
