@@ -78,7 +78,7 @@ goes_on rest count value byte read more byte-is high below =
     }
 
 -- so many bytes with the high bit are at least as many
-high_at_least : (rest : List ℕ) (count : ℕ) → count ≤ length rest → ((k : ℕ) → k < count → has_high_bit (get_or rest k 0) ≡ true) → count ≤ prefix_len has_high_bit rest
+pub high_at_least : (rest : List ℕ) (count : ℕ) → count ≤ length rest → ((k : ℕ) → k < count → has_high_bit (get_or rest k 0) ≡ true) → count ≤ prefix_len has_high_bit rest
 high_at_least rest count within high =
     elim (cases_lt (prefix_len has_high_bit rest) count) [
       | inl lt ↦ absurd (false≢true (sym (prefix_len_stops has_high_bit rest 0 (omega arith)) ∙ high (prefix_len has_high_bit rest) lt))

@@ -1,6 +1,6 @@
 -- What the bytes of a number mean: groups of seven bits, low group first, and zig-zag.
 -- Avro 1.11, "Binary encoding", "Primitive types": int and long.
-use Rattle.std.specs.Prelude.{◌≡◌, ℕ, ◌+◌, ◌-◌, ◌*◌, ◌/◌, ◌%◌, ◌^◌, ◌<◌, ◌≤◌, ℤ, pos, negsuc, List, [], ◌∷◌, ◌++◌, length, take, All, if◌then◌else◌, ◌==◌}
+use Rattle.std.specs.Prelude.{◌≡◌, ℕ, ◌+◌, ◌-◌, ◌*◌, ◌/◌, ◌%◌, ◌^◌, ◌<◌, ◌≤◌, ℤ, pos, negsuc, ◌<ℤ◌, ◌⊎◌, List, [], ◌∷◌, ◌++◌, length, take, All, if◌then◌else◌, ◌==◌}
 
 -- every byte but the last has the high bit set, and the last one has not
 abbrev pub IsGroups : List ℕ → Type 0
@@ -64,3 +64,15 @@ pub record BeginsWith (bounds : Bounds) (rest : List ℕ) (P : ℤ → List ℕ 
   pub parts : rest ≡ bytes ++ after
   pub spelled : SpellsNumber bounds bytes value
   pub such : P value after
+
+-- no number that may stand here does, whatever comes after the rest
+abbrev pub IsTooLong : Bounds → List ℕ → Type 0
+IsTooLong bounds rest = IsEndless bounds rest ⊎ IsTooLarge bounds rest
+
+-- the input ends before the last byte of a length, or of the bytes that it promises
+abbrev pub EndsInsideBytes : List ℕ → Type 0
+EndsInsideBytes rest = EndsInside long rest ⊎ BeginsWith long rest (λ value after. pos (length after) <ℤ value)
+
+-- what stands here is too long to be a length, or is negative
+abbrev pub IsNoLength : List ℕ → Type 0
+IsNoLength rest = IsTooLong long rest ⊎ BeginsWith long rest (λ value after. value <ℤ pos 0)

@@ -5,7 +5,7 @@ ghost use Rattle.std.specs.Prelude.{◌≡◌, IfOk};
 use std::alloc::{AllocError, Global};
 use std::marker::Model;
 
-/// A list of bytes.
+/// Bytes, which contracts see as the list of their values. Avro spec, "Binary encoding".
 #[derive(Debug, Drop)]
 pub struct Bytes {
     items: Vec<u8>,
@@ -20,7 +20,7 @@ impl Model for Bytes {
 }
 
 impl Bytes {
-    /// The same bytes.
+    /// The same bytes, in memory of their own. An `Err` says that memory ran out.
     pub fn from_slice(alloc: Global, s: &[u8]) -> Result<Bytes, AllocError>
         ensures { IfOk result (λ b. b ≡ s.now) }
     {
@@ -36,7 +36,7 @@ impl Bytes {
         self.items.as_slice()
     }
 
-    /// An equal value.
+    /// Equal bytes, in memory of their own. An `Err` says that memory ran out.
     pub fn copy(&self, alloc: Global) -> Result<Bytes, AllocError>
         ensures { IfOk result (λ b. b ≡ self.now) }
     {

@@ -5,14 +5,17 @@
 //! | `bytes`, `text` | bytes and texts that contracts see as lists of bytes |
 //! | `refusal` | why an item can't be taken |
 //! | `reading` | the takes: an item at a place, and the place after it |
+//! | `tests` | outside values, and each public function once |
 #![tactic(auto)]
 
 mod bytes;
 mod reading;
 mod refusal;
+#[cfg(test)]
+mod tests;
 mod text;
 
 pub use bytes::Bytes;
-pub use reading::{take_bytes, take_int, take_long};
+pub use reading::{no_prefix, take_bytes, take_int, take_long};
 pub use refusal::WireRefusal;
 pub use text::Text;

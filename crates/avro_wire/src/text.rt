@@ -5,7 +5,7 @@ ghost use Rattle.std.specs.Prelude.{◌≡◌, IfOk};
 use std::alloc::{AllocError, Global};
 use std::marker::Model;
 
-/// A text, which contracts see as the list of its bytes.
+/// A text, which contracts see as the list of its bytes in UTF-8. Avro spec, "Binary encoding".
 #[derive(Debug, Drop)]
 pub struct Text {
     string: String,
@@ -21,7 +21,7 @@ impl Model for Text {
 }
 
 impl Text {
-    /// The same text.
+    /// The same text, in memory of its own. An `Err` says that memory ran out.
     pub fn from_str(alloc: Global, s: &str) -> Result<Text, AllocError>
         ensures { IfOk result (λ t. t ≡ s.now) }
     {
@@ -37,7 +37,7 @@ impl Text {
         self.string.as_str()
     }
 
-    /// An equal value.
+    /// An equal text, in memory of its own. An `Err` says that memory ran out.
     pub fn copy(&self, alloc: Global) -> Result<Text, AllocError>
         ensures { IfOk result (λ t. t ≡ self.now) }
     {
