@@ -17,11 +17,8 @@ container_at input = if nat_lt OBJECT (length input) then Err (Limit (length inp
   blocks ← blocks_at (length input) (slice_range input header.1 first) 1 input first
   Ok (record { meta = header.0; sync = slice_range input header.1 first; blocks = blocks }))
 
--- a container, and those of its blocks that were not lent yet
+-- a container, those of its blocks that were not lent yet, and how many bytes of the file stand from them on
 pub record Walked : Type 0 where
   pub whole : Container
   pub left : List Block
-
--- nothing was lent
-abbrev pub walk_of : Container → Walked
-walk_of container = record { whole = container; left = container.blocks }
+  pub ahead : ℕ

@@ -1,5 +1,5 @@
 -- What a walk keeps of the bytes that it lends blocks of.
-use Rattle.std.specs.Prelude.{◌≡◌, ℕ, ◌≤◌, List, [], length, true, is_ok}
+use Rattle.std.specs.Prelude.{◌≡◌, ℕ, ◌-◌, ◌≤◌, List, [], length, true, is_ok}
 use Rattle.words.specs.Reading.{value_or}
 use Rattle.avro_container.specs.Header.{Pair}
 use Rattle.avro_container.specs.Block.{blocks_left}
@@ -10,6 +10,7 @@ abbrev pub walked_of : List ℕ → List Pair → List ℕ → ℕ → ℕ → �
 walked_of input meta sync first place lent = record {
   whole = record { meta = meta; sync = sync; blocks = value_or [] (blocks_left sync input 0 first) };
   left = value_or [] (blocks_left sync input lent place);
+  ahead = length input - place;
 }
 
 -- the blocks were checked, from the first one on and from the next one on

@@ -64,6 +64,7 @@ pub fn take_frame(
     ensures within { IfOk result (λ taken. (place < taken.1) × (taken.1 ≤ length input.now)) }
     ensures frame { IfOk result (λ taken. (taken.0.start ≤ taken.0.end)
         × (taken.0.end ≤ length input.now) × (taken.0.count < 2 ^ 63)) }
+    ensures inside { IfOk result (λ taken. (place ≤ taken.0.start) × (taken.0.end ≤ taken.1)) }
 {
     let (count, after) = take_count(block, input, place)?;
     let (size, start) = take_count(block, input, after)?;

@@ -1,10 +1,10 @@
 //! The whole framing of a file checked, and its blocks lent one after the other.
 
-ghost use Rattle.std.specs.Prelude.{◌≡◌, ◌≤◌, [], ◌∷◌, length, IfNone, MatchOption};
-ghost use Rattle.words.specs.Reading.{Gives, never, outcome, map_value};
+ghost use Rattle.std.specs.Prelude.{◌≡◌, ◌≤◌, [], ◌∷◌, length, IfNone, IfSome, IfOk, MatchOption, ◌+◌};
+ghost use Rattle.words.specs.Reading.{Gives, never, outcome};
 ghost use Rattle.avro_container.specs.Refusal.{is_memory};
 ghost use Rattle.avro_container.specs.Block.{blocks_at};
-ghost use Rattle.avro_container.specs.Container.{container_at, walk_of};
+ghost use Rattle.avro_container.specs.Container.{container_at};
 
 use crate::block::{SYNC_BYTES, take_frame};
 use crate::container::Meta;
@@ -60,8 +60,9 @@ fn check_blocks(sync: &[u8; 16], input: &[u8], first: usize) -> Result<(), Conta
 /// Checks the whole framing of the bytes: the container is there, and its blocks can be lent.
 #[tactic(auto, unfolding(crate::specs::Container::container_at))]
 pub fn open_walk(alloc: Global, input: &[u8]) -> Result<Walk<'_>, ContainerRefusal>
-    ensures exact { Gives is_memory (λ walk. walk) result
-        (map_value walk_of (container_at input.now)) }
+    ensures exact { Gives is_memory (λ walk. walk.whole) result (container_at input.now) }
+    ensures start { IfOk result (λ walk. walk.left ≡ walk.whole.blocks) }
+    ensures ahead { IfOk result (λ walk. walk.ahead ≤ length input.now) }
 {
     if input.len() as u64 > OBJECT {
         return Err(ContainerRefusal::Limit {
@@ -105,6 +106,8 @@ impl<'a> Walk<'a> {
         ensures value { MatchOption result (self.old.left ≡ [])
             (λ block. self.old.left ≡ record { count = block.0; bytes = block.1.now } ∷ self.new.left) }
         ensures end { IfNone result (self.new ≡ self.old) }
+        ensures ahead { IfSome result (λ block.
+            length block.1.now + self.new.ahead ≤ self.old.ahead) }
         ensures whole { self.new.whole ≡ self.old.whole }
     {
         if self.place >= self.input.len() {
@@ -121,7 +124,8 @@ impl<'a> Walk<'a> {
 
     /// Goes back to the first block.
     pub fn restart(&mut self)
-        ensures { self.new ≡ walk_of self.old.whole }
+        ensures start { self.new.left ≡ self.old.whole.blocks }
+        ensures whole { self.new.whole ≡ self.old.whole }
     {
         self.place = self.first;
         self.lent = 0;
