@@ -1,5 +1,9 @@
 //! A container as plain data.
 
+ghost use Rattle.std.specs.Prelude.{◌≡◌};
+ghost use Rattle.std.specs.Option.{option_copied};
+ghost use Rattle.avro_container.specs.Header.{bound_to as value_of};
+
 use avro_wire::{Bytes, Text};
 use sqlite_items::Items;
 
@@ -25,4 +29,16 @@ pub struct Container {
     /// The marker that stands behind the header and behind each block.
     pub sync: [u8; 16],
     pub blocks: Blocks,
+}
+
+/// What the key is bound to in a header; None where no pair has it.
+pub fn bound_to<'a>(meta: &'a Meta, key: &str) -> Option<&'a [u8]>
+    ensures { option_copied result ≡ value_of meta.now key.now }
+{
+    for pair in meta.as_slice() {
+        if pair.0.as_str() == key {
+            return Some(pair.1.as_slice());
+        }
+    }
+    None
 }

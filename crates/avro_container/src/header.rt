@@ -1,14 +1,13 @@
 //! Reading the magic bytes, the header's map and what it has to have.
 
-ghost use Rattle.std.specs.Prelude.{◌≡◌, ◌+◌, ◌<◌, ◌≤◌, length, nat_lt, IfOk, IfSome, is_some};
-ghost use Rattle.std.specs.Str.{is_utf8};
+ghost use Rattle.std.specs.Prelude.{◌≡◌, ◌+◌, ◌<◌, ◌≤◌, length, nat_lt, IfOk};
 ghost use Rattle.words.specs.Reading.{Gives, never};
 ghost use Rattle.avro_container.specs.Refusal.{is_memory, header_refusal as refusal_in_header};
 ghost use Rattle.avro_container.specs.Header.{magic_at, map_number_at, item_at, key_at, pair_at, pairs_at, counted_at, sized_at, map_block_at, map_at, most_pairs, checked, part_at, header_at};
 
 use crate::pairs::Pairs;
 use crate::refusal::ContainerRefusal;
-use avro_wire::{Bytes, WireRefusal, take_bytes, take_long};
+use avro_wire::{Bytes, WireRefusal, take_bytes, take_long, text_of};
 use std::alloc::Global;
 
 /// `Obj` and the format's version.
@@ -69,17 +68,6 @@ fn take_item(input: &[u8], place: usize) -> Result<(usize, usize), ContainerRefu
     match take_bytes(input, place) {
         Ok(taken) => Ok(taken),
         Err(refusal) => Err(header_refusal(refusal)),
-    }
-}
-
-/// The bytes as text, if they are text.
-fn text_of(bytes: &[u8]) -> Option<&str>
-    ensures value { IfSome result (λ text. text.now ≡ bytes.now) }
-    ensures is_text { is_some result ≡ is_utf8 bytes.now }
-{
-    match str::from_utf8(bytes) {
-        Ok(text) => Some(text),
-        Err(_) => None,
     }
 }
 

@@ -19,7 +19,7 @@ mod reading;
 mod refusal;
 mod walk;
 
-pub use container::{Block, Blocks, Container, Meta};
+pub use container::{Block, Blocks, Container, Meta, bound_to};
 pub use reading::read;
 pub use refusal::ContainerRefusal;
 pub use walk::{Walk, open_walk};

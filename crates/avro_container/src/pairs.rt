@@ -2,9 +2,9 @@
 
 ghost use Rattle.std.specs.Prelude.{◌≡◌, ◌++◌, ◌∷◌, [], false, length, OnOk, OnErr, IfOk};
 ghost use Rattle.std.specs.Option.{option_copied};
-ghost use Rattle.avro_container.specs.Header.{has_key, bound_to};
+ghost use Rattle.avro_container.specs.Header.{has_key, bound_to as value_of};
 
-use crate::container::Meta;
+use crate::container::{Meta, bound_to};
 use avro_wire::{Bytes, Text};
 use sqlite_items::Items;
 use std::alloc::{AllocError, Global};
@@ -76,14 +76,9 @@ impl Pairs {
 
     /// What the key is bound to.
     pub fn get(&self, key: &str) -> Option<&[u8]>
-        ensures { option_copied result ≡ bound_to self.now key.now }
+        ensures { option_copied result ≡ value_of self.now key.now }
     {
-        for pair in self.pairs.as_slice() {
-            if pair.0.as_str() == key {
-                return Some(pair.1.as_slice());
-            }
-        }
-        None
+        bound_to(&self.pairs, key)
     }
 
     /// The pairs alone.

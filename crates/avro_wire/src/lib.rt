@@ -3,6 +3,7 @@
 //! | Module | What it has |
 //! |---|---|
 //! | `bytes`, `text` | bytes and texts that contracts see as lists of bytes |
+//! | `utf8` | the test of bytes for text |
 //! | `refusal` | why an item can't be taken |
 //! | `reading` | the takes: an item at a place, and the place after it |
 //! | `tests` | outside values, and each public function once |
@@ -14,8 +15,10 @@ mod refusal;
 #[cfg(test)]
 mod tests;
 mod text;
+mod utf8;
 
 pub use bytes::Bytes;
 pub use reading::{no_prefix, take_bytes, take_int, take_long};
 pub use refusal::WireRefusal;
 pub use text::Text;
+pub use utf8::text_of;

@@ -1,7 +1,7 @@
 use Rattle.std.proofs.Common.{sym}
 use Rattle.std.proofs.lemmas.Bool.{false_from_ne_true}
 use Rattle.std.proofs.lemmas.Str.{is_utf8-from_IsUtf8, IsUtf8-from_is_utf8}
-use Rattle.avro_container.proofs.header.text_of.Goals as goal
+use Rattle.avro_wire.proofs.utf8.text_of.Goals as goal
 
 pub returns-in-Ok-clause-is_text : goal.returns-in-Ok-clause-is_text
 returns-in-Ok-clause-is_text c = sym (is_utf8-from_IsUtf8 c.args.bytes.now c.in-Ok.ensures.cases.1)

@@ -1,7 +1,7 @@
 use Rattle.std.proofs.Common.{◌≡◌, List, ℕ, true, false, Some, sym, ap, ◌∙◌}
 use Rattle.std.specs.Str.{bytes_eq}
 use Rattle.avro_container.proofs.PairsLemmas.{bound_to-found, bound_to-next}
-use Rattle.avro_container.proofs.pairs.Pairs.get.Goals as goal
+use Rattle.avro_container.proofs.container.bound_to.Goals as goal
 
 pub returns-then-eq : goal.returns-then-eq
 returns-then-eq c =
