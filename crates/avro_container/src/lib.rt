@@ -23,3 +23,6 @@ pub use container::{Block, Blocks, Container, Meta, bound_to};
 pub use reading::read;
 pub use refusal::ContainerRefusal;
 pub use walk::{Walk, open_walk};
+
+#[cfg(test)]
+mod tests;
