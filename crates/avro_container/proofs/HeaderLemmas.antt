@@ -7,6 +7,7 @@ use Rattle.std.proofs.lemmas.Bool.{ne_eqb}
 use Rattle.avro_container.specs.declared.refusal.ContainerRefusal.{ContainerRefusal}
 use Rattle.avro_container.specs.Header.{Pair, is_natural, map_number_at, map_block_at, map_at}
 
+-- what reading the map answers
 abbrev Answer : Type 0
 Answer = Result (List Pair × ℕ) ContainerRefusal
 

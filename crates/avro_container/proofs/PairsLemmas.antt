@@ -5,6 +5,7 @@ use Rattle.std.proofs.lemmas.List.{at_drop_more}
 use Rattle.std.proofs.lemmas.List.Folds.{list_any-append}
 use Rattle.avro_container.specs.Header.{Pair, has_key, bound_to}
 
+-- a test behind others that ends a list
 or_true : (a b : Bool) → (a || (b || false)) ≡ cond b true a
 or_true true true = refl
 or_true true false = refl

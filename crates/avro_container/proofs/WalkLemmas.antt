@@ -45,6 +45,7 @@ pub is_ok-outcome : (read : Result (List Block) ContainerRefusal) → outcome re
 is_ok-outcome (Ok blocks) done = (refl, refl)
 is_ok-outcome (Err e) done = absurd cc
 
+-- what is refused for certain
 pub err-outcome : (read : Result (List Block) ContainerRefusal) (e : ContainerRefusal) → outcome read ≡ Err e → read ≡ Err e
 err-outcome (Ok blocks) e failed = absurd cc
 err-outcome (Err d) e failed = cc

@@ -1,9 +1,11 @@
 //! A container as plain data, from its bytes.
 
-ghost use Rattle.std.specs.Prelude.{◌≡◌};
+ghost use Rattle.std.specs.Prelude.{◌≡◌, ◌≤◌, length, Ok, IfOk};
 ghost use Rattle.words.specs.Reading.{Gives};
+ghost use Rattle.lt_base.specs.declared.limit.TheConstants.{OBJECT};
 ghost use Rattle.avro_container.specs.Refusal.{is_memory};
 ghost use Rattle.avro_container.specs.Container.{container_at};
+ghost use Rattle.avro_container.specs.Format.{IsContainer};
 
 use crate::container::{Block, Container};
 use crate::refusal::ContainerRefusal;
@@ -15,6 +17,18 @@ use std::alloc::Global;
 /// The container that the bytes are, all of them, or the first refusal in their order.
 /// Avro spec, "Object Container Files".
 pub fn read(alloc: Global, input: &[u8]) -> Result<Container, ContainerRefusal>
+    // The bytes are the file of what is read, and each file within the limit is read.
+    ensures found { IfOk result (λ container. IsContainer input.now container) }
+    ensures only { (container : Container) → IsContainer input.now container
+        → length input.now ≤ OBJECT → Gives is_memory (λ c. c) result (Ok container) }
+    // Which refusal comes.
+    ensures exact { Gives is_memory (λ container. container) result (container_at input.now) }
+{
+    container_of(alloc, input)
+}
+
+/// What `read` answers.
+fn container_of(alloc: Global, input: &[u8]) -> Result<Container, ContainerRefusal>
     ensures exact { Gives is_memory (λ container. container) result (container_at input.now) }
 {
     let mut walk = open_walk(alloc, input)?;

@@ -1,6 +1,6 @@
 use Rattle.std.proofs.Common.{◌≡◌, ◌++◌, length, Ok}
 use Rattle.avro_container.specs.Container.{container_at}
-use Rattle.avro_container.proofs.reading.read.Given as goal
+use Rattle.avro_container.proofs.reading.container_of.Given as goal
 
 abbrev pub invariant-loop-count : goal.invariant-loop-count
 invariant-loop-count l = record {

@@ -1,0 +1,80 @@
+-- A block of the header's map that tells its size, by the relation: what is read is spelled so, and what is spelled so is read.
+use Rattle.std.proofs.Common.{◌≡◌, ℕ, suc, ◌+◌, ◌-◌, ◌≤◌, ℤ, pos, negsuc, true, false, List, ◌++◌, length, drop, Ok, nat_lt, inr, refl, sym, ap, subst, ◌∙◌, append_assoc, arith}
+use Rattle.std.proofs.lemmas.Bool.{eq-eqb, ltb-false, le-ltb}
+use Rattle.std.proofs.lemmas.List.{length-append}
+use Rattle.words.specs.Grammar.{Joined}
+use Rattle.avro_wire.specs.Number.{long, SpellsNumber}
+use Rattle.avro_container.specs.declared.refusal.ContainerRefusal.TheVariants.{Header}
+use Rattle.avro_container.specs.Header.{Pair, most_pairs, is_natural, map_number_at, pairs_at, sized_at, map_block_at}
+use Rattle.avro_container.specs.Format.{SpellsPairs, IsSized}
+use Rattle.avro_container.proofs.Parts.{drop_behind, took_then, took_as, took_sized}
+use Rattle.avro_container.proofs.Steps.{bind_then, test_passed, test_failed, ok_is}
+use Rattle.avro_container.proofs.SpelledNumber.{map_number_took, map_number_again}
+use Rattle.avro_container.proofs.SpelledPairs.{pairs_took, pairs_again}
+use Rattle.avro_container.proofs.Keys.{IsSoFar}
+use Rattle.avro_container.proofs.MapBlock.{SpellsMapBlock, is_natural_is, BlockTook, BlockAgain}
+
+-- its bytes, of one that tells its size
+sized_is : (n : ℕ) (more : List Pair) (first after : ℕ) (size : ℤ) (bytes : List ℕ) → length more ≡ suc n → size ≡ pos (after - first)
+    → Joined (λ front. SpellsNumber long front (negsuc n)) (Joined (λ front. SpellsNumber long front size) (λ items. (after ≡ first + length items) × SpellsPairs more items)) bytes → SpellsMapBlock more bytes
+sized_is n more first after size bytes many true_size joined =
+    let inner = joined.second in
+    let same : after - first ≡ length inner.rest = omega (arith, inner.second.0) in
+    inr (record {
+      count = joined.front;
+      size = inner.front;
+      items = inner.rest;
+      whole = joined.parts ∙ ap (λ (x : List ℕ). joined.front ++ x) inner.parts;
+      less = n;
+      counts = joined.first;
+      many = omega arith;
+      sizes = subst (SpellsNumber long inner.front) (true_size ∙ ap (λ (k : ℕ). pos k) same) inner.first;
+      spelled = inner.second.1;
+    })
+
+-- what is read is spelled so
+pub sized_took : (place n : ℕ) (pairs : List Pair) (input : List ℕ) (start : ℕ) (taken : List Pair × ℕ) → map_number_at input place ≡ Ok (negsuc n, start) → sized_at place (suc n) pairs input start ≡ Ok taken → IsSoFar pairs
+    → BlockTook pairs input place taken
+unfolding sized_at
+sized_took place n pairs input start taken number read kept =
+    let passed = test_failed (nat_lt most_pairs (length pairs + suc n)) _ (Header place) taken read in
+    bind_then (map_number_at input start) _ taken passed.1 (λ size size_read behind.
+    bind_then (pairs_at (suc n) pairs input size.1) _ taken behind (λ items items_read tested.
+    let test = test_passed (is_natural size.0 (items.1 - size.1)) (Ok items) (Header start) taken tested in
+    let block = pairs_took (suc n) pairs input size.1 items items_read kept in
+    let true_size : size.0 ≡ pos (items.1 - size.1) = is_natural_is size.0 (items.1 - size.1) test.0 in
+    let inner = took_then input start size.1 items.1 (map_number_took input start size size_read) (took_sized input size.1 items.1 block.took) in
+    let whole = took_then input place start items.1 (map_number_took input place (negsuc n, start) number) inner in
+    let is : BlockTook pairs input place items = record {
+      more = block.more;
+      grown = block.grown;
+      took = took_as input place items.1 (λ bytes. sized_is n block.more size.1 items.1 size.0 bytes block.many true_size) whole;
+      kept = block.kept;
+      few = omega (arith, ltb-false _ _ passed.0, block.many, ap length block.grown, length-append pairs block.more);
+    } in
+    subst (BlockTook pairs input place) (ok_is items taken test.1) is))
+
+-- what is spelled so is read, whatever follows
+pub sized_again : (place : ℕ) (pairs : List Pair) (input bytes rest : List ℕ) (more : List Pair) → drop place input ≡ bytes ++ rest → IsSized more bytes → IsSoFar (pairs ++ more) → length pairs + length more ≤ most_pairs
+    → BlockAgain place pairs input bytes more
+unfolding map_block_at sized_at
+sized_again place pairs input bytes rest more parts block kept few =
+    let inner : (block.size ++ block.items) ++ rest ≡ block.size ++ (block.items ++ rest) = append_assoc block.size block.items rest in
+    let whole : drop place input ≡ block.count ++ (block.size ++ (block.items ++ rest)) = parts ∙ ap (λ (x : List ℕ). x ++ rest) block.whole ∙ append_assoc block.count (block.size ++ block.items) rest ∙ ap (λ (x : List ℕ). block.count ++ x) inner in
+    let start = place + length block.count in
+    let behind = drop_behind input place block.count (block.size ++ (block.items ++ rest)) whole in
+    let size = map_number_again input start block.size (block.items ++ rest) (pos (length block.items)) behind block.sizes in
+    let first = start + length block.size in
+    let read = pairs_again more pairs input first block.items rest (drop_behind input start block.size (block.items ++ rest) behind) block.spelled kept in
+    let many : length more ≡ suc block.less = omega (arith, block.many) in
+    let counted : pairs_at (suc block.less) pairs input first ≡ Ok (pairs ++ more, first + length block.items) = ap (λ (n : ℕ). pairs_at n pairs input first) (sym many) ∙ read in
+    let fits : nat_lt most_pairs (length pairs + suc block.less) ≡ false = le-ltb _ _ (omega arith) in
+    let true_size : is_natural (pos (length block.items)) (first + length block.items - first) ≡ true = eq-eqb _ _ (omega arith) in
+    let ends : first + length block.items ≡ place + length bytes = omega (arith, ap length block.whole, length-append block.count (block.size ++ block.items), length-append block.size block.items) in
+    record {
+      count = negsuc block.less;
+      start = start;
+      number = map_number_again input place block.count (block.size ++ (block.items ++ rest)) (negsuc block.less) whole block.counts;
+      some = refl;
+      read = rw (fits, size, counted, true_size, ends) refl;
+    }
