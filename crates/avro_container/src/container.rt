@@ -7,7 +7,8 @@ ghost use Rattle.avro_container.specs.Header.{bound_to as value_of};
 use avro_wire::{Bytes, Text};
 use sqlite_items::Items;
 
-/// The pairs of a header in file order: what `avro.schema`, `avro.codec` and other names are bound to.
+/// The pairs of a header in file order: what `avro.schema`, `avro.codec` and other names are bound
+/// to.
 pub type Meta = Items<(Text, Bytes)>;
 
 /// The blocks of a container in file order.

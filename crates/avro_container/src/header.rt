@@ -80,7 +80,8 @@ fn take_pair(
     place: usize,
 ) -> Result<usize, ContainerRefusal>
     requires { place ≤ length input.now }
-    ensures exact { Gives is_memory (λ after. (pairs.new, after)) result (pair_at pairs.old input.now place) }
+    ensures exact { Gives is_memory (λ after. (pairs.new, after)) result
+        (pair_at pairs.old input.now place) }
     ensures within { IfOk result (λ after. (place < after) × (after ≤ length input.now)) }
 {
     let (start, end) = take_item(input, place)?;

@@ -6,15 +6,17 @@ ghost use Rattle.avro_container.specs.declared.refusal.ContainerRefusal.TheVaria
 use avro_wire::{Bytes, WireRefusal};
 use std::alloc::{AllocError, AllocFailed};
 
-/// Why bytes are no container: the first cause in the order of the bytes. Places count bytes from 0, blocks from 1.
+/// Why bytes are no container: the first cause in the order of the bytes. Places count bytes from 0,
+/// blocks from 1.
 #[derive(Debug, Drop)]
 pub enum ContainerRefusal {
     /// There are more bytes than an object may have. `found` is their number.
     Limit { found: u64 },
     /// The first bytes are not those of a container.
     Magic,
-    /// A number or a key of the header's map is wrong, a key stands twice, or `avro.schema` is absent. `place` is where
-    /// the number or the key's length begins; for an absent schema it is where the marker begins.
+    /// A number or a key of the header's map is wrong, a key stands twice, or `avro.schema` is
+    /// absent. `place` is where the number or the key's length begins; for an absent schema it is
+    /// where the marker begins.
     Header { place: u64 },
     /// The codec is not `null`. `name` is what the header says.
     Codec { name: Bytes },

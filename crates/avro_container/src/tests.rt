@@ -6,8 +6,9 @@ use std::alloc::{AllocError, Global};
 use std::test::*;
 
 /// The schema of the files below.
-const SCHEMA: &[u8] =
-    b"{\"type\":\"record\",\"name\":\"row\",\"fields\":[{\"name\":\"n\",\"type\":\"long\",\"field-id\":1},{\"name\":\"s\",\"type\":[\"null\",\"string\"],\"default\":null,\"field-id\":2}]}";
+const SCHEMA: &[u8] = b"{\"type\":\"record\",\"name\":\"row\",\"fields\":[\
+    {\"name\":\"n\",\"type\":\"long\",\"field-id\":1},\
+    {\"name\":\"s\",\"type\":[\"null\",\"string\"],\"default\":null,\"field-id\":2}]}";
 
 /// What stands before a codec's name, and behind the schema.
 const CODEC: &[u8] = b"\x14avro.codec";

@@ -14,8 +14,8 @@ use lt_base::OBJECT;
 use std::alloc::Global;
 use std::marker::Model;
 
-/// The blocks of a container, lent one after the other from bytes whose framing was checked whole. Contracts see the
-/// container, and those of its blocks that are left.
+/// The blocks of a container, lent one after the other from bytes whose framing was checked whole.
+/// Contracts see the container, and those of its blocks that are left.
 #[derive(Drop)]
 pub struct Walk<'a> {
     input: &'a [u8],
@@ -104,7 +104,8 @@ impl<'a> Walk<'a> {
     /// The next block: how many objects it has, and their bytes. None where no block is left.
     pub fn next(&mut self) -> Option<(i64, &'a [u8])>
         ensures value { MatchOption result (self.old.left ≡ [])
-            (λ block. self.old.left ≡ record { count = block.0; bytes = block.1.now } ∷ self.new.left) }
+            (λ block. self.old.left
+            ≡ record { count = block.0; bytes = block.1.now } ∷ self.new.left) }
         ensures end { IfNone result (self.new ≡ self.old) }
         ensures ahead { IfSome result (λ block.
             length block.1.now + self.new.ahead ≤ self.old.ahead) }
