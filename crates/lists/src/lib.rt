@@ -1,0 +1,16 @@
+//! A list that contracts see as a list, with a copy that equals it.
+//!
+//! | Module | What it has |
+//! |---|---|
+//! | `copied` | values of which an equal one can be made |
+//! | `list` | the list |
+//! | `tests` | each public function once |
+#![tactic(auto)]
+
+mod copied;
+mod list;
+#[cfg(test)]
+mod tests;
+
+pub use copied::Copied;
+pub use list::List;
