@@ -1,0 +1,3 @@
+pub mod Which
+pub mod RowMap
+pub mod Columns
