@@ -1,6 +1,7 @@
 //! Rows by their ids.
 
-ghost use Rattle.std.specs.Prelude.{◌≡◌, [], length, OnOk, OnErr};
+ghost use Rattle.std.specs.Prelude.{◌≡◌, ◌≢◌, ℤ, [], length, OnOk, OnErr};
+ghost use Rattle.std.specs.declared.option.Option.TheVariants.{Some};
 ghost use Rattle.std.specs.Option.{option_copied};
 ghost use Rattle.lt_base.specs.RowMap.{IsRising, row_at, with_row};
 
@@ -65,6 +66,10 @@ impl RowMap {
     pub fn insert(&mut self, id: i64, last: i64, cells: Cells) -> Result<(), AllocError>
         ensures ok { OnOk result (self.new ≡ with_row self.old id (last, cells)) }
         ensures err { OnErr result (self.new ≡ self.old) }
+        // What stands at each id then.
+        ensures found { OnOk result (row_at self.new id ≡ Some (last, cells)) }
+        ensures others { OnOk result ((other : ℤ) → other ≢ id
+            → row_at self.new other ≡ row_at self.old other) }
     {
         put(&mut self.rows, id, (last, cells))
     }
@@ -85,6 +90,9 @@ fn put(rows: &mut BTreeMap<i64, (i64, Cells)>, id: i64, row: (i64, Cells)) -> Re
     ensures ok { OnOk result (rows.new.entries ≡ with_row rows.old.entries id row) }
     ensures err { OnErr result (rows.new.entries ≡ rows.old.entries) }
     ensures rising { IsRising rows.new.entries }
+    ensures found { OnOk result (row_at rows.new.entries id ≡ Some row) }
+    ensures others { OnOk result ((other : ℤ) → other ≢ id
+        → row_at rows.new.entries other ≡ row_at rows.old.entries other) }
 {
     rows.insert(id, row)?;
     Ok(())
