@@ -142,3 +142,16 @@ fn bytes_keep_their_values(rt: HostRuntime) -> Result<(), Fail> {
     assert_eq!(rt; bytes.copy(rt.alloc())?.as_slice(), [0, 255, 10].as_slice());
     Ok(())
 }
+
+#[test]
+fn bytes_in_utf_8_are_a_text(rt: HostRuntime) {
+    let cases = [
+        (b"".as_slice(), Some("")),
+        (b"a\xC3\xA9".as_slice(), Some("a\u{e9}")),
+        (b"\xFF".as_slice(), None),
+        (b"\xC3".as_slice(), None),
+    ];
+    for (bytes, text) in cases {
+        assert_eq!(rt; text_of(bytes), text);
+    }
+}

@@ -31,3 +31,9 @@ repeated_end step count i s total le so_far =
 pub refused_for_certain : {P : Type 0} (is_memory : Bool) → P → OnFalse is_memory P
 refused_for_certain true h = tt
 refused_for_certain false h = h
+
+-- before the first step all are left
+pub repeated_init : {S E : Type 0} (step : S → Result S E) (count : ℕ) (s : S) (total : Result S E) → repeated step count s ≡ total → repeated step (count - 0) s ≡ total
+repeated_init step count s total whole =
+    let left : count - 0 ≡ count = omega arith in
+    ap (λ (n : ℕ). repeated step n s) left ∙ whole

@@ -1,0 +1,5 @@
+pub mod OutputLemmas
+pub mod RowsLemmas
+pub mod TextLemmas
+pub mod PrintLemmas
+pub mod RunLemmas

@@ -1,0 +1,48 @@
+//! What the words of a command line ask for.
+
+ghost use Rattle.std.specs.Prelude.{◌≡◌, ◌^◌, ◌<◌, ℕ, decimal, MatchOption};
+ghost use Rattle.lineage_cli.specs.Command.{Asks};
+
+use avro_wire::Text;
+use itoa::Buffer;
+
+/// A command and its arguments.
+#[derive(Clone, Copy, Debug, PartialEq, Eq)]
+pub enum Command {
+    /// The rows of one data file, whose first row id and data sequence number are given, both of 63 bits.
+    Rows { first: u64, sequence: u64 },
+}
+
+/// The command that the words have the form of, if they have one.
+pub fn command_of(words: &[Text]) -> Option<Command>
+    ensures { MatchOption result
+        ((command : _) → Asks words.now command → ⊥)
+        (λ command. Asks words.now command) }
+{
+    match words {
+        [name, first, sequence] if name.as_str() == "rows" => {
+            let first = natural(first.as_str())?;
+            let sequence = natural(sequence.as_str())?;
+            Some(Command::Rows { first, sequence })
+        }
+        _ => None,
+    }
+}
+
+/// The number that the word is the decimal text of, if it is one of 63 bits: no sign, no leading zero.
+fn natural(word: &str) -> Option<u64>
+    ensures { MatchOption result
+        ((n : ℕ) → n < 2 ^ 63 → word.now ≡ decimal n → ⊥)
+        (λ number. (number < 2 ^ 63) × (word.now ≡ decimal number)) }
+{
+    let number = word.parse::<u64>().ok()?;
+    if number > i64::MAX as u64 {
+        return None;
+    }
+    let mut buffer = Buffer::new();
+    if buffer.format(number) == word {
+        Some(number)
+    } else {
+        None
+    }
+}

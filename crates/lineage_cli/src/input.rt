@@ -1,0 +1,96 @@
+//! Reading a source to its end.
+
+ghost use Rattle.std.specs.Prelude.{◌≡◌, ◌≢◌, ◌<◌, ◌^◌, length, IfOk, IfErr, OnOk, IsErrOf};
+ghost use Rattle.std.specs.Bool.{OnTrue, OnFalse};
+ghost use Rattle.std.specs.Io.KnownBytes.{IsAtEnd};
+ghost use Rattle.lt_port.specs.Faults.{HasCause};
+ghost use Rattle.lineage_cli.specs.Input.{IsAll, IsTooMuch, Reads};
+
+use lt_port::Source;
+use std::alloc::{AllocError, Global};
+
+/// The bytes that one call asks for at most.
+const PIECE_BYTES: usize = 65_536;
+
+/// Why an input was not read.
+#[derive(Clone, Copy, Debug, PartialEq, Eq)]
+pub enum InputRefusal {
+    /// The source failed.
+    Fault,
+    /// There are more bytes than may be. Of those above the limit one was read.
+    Limit,
+    /// There was no memory.
+    Memory,
+}
+
+/// So many zero bytes.
+fn zeros(alloc: Global, count: usize) -> Result<Vec<u8>, AllocError>
+    ensures { IfOk result (λ room. length room.items ≡ count) }
+{
+    vec![in alloc; 0; count]
+}
+
+/// Reads one piece of what the source has left behind `bytes`, into `room` on the way. It answers whether there was any.
+fn read_piece<S: Source>(
+    input: &mut S,
+    room: &mut [u8],
+    bytes: &mut Vec<u8>,
+) -> Result<bool, InputRefusal>
+    requires { 0 < length room.old }
+    ensures read { OnOk result (Reads (S.left input.old) (S.left input.new) bytes.old.items bytes.new.items (length room.old)) }
+    ensures end { IfOk result (λ more. OnFalse more (IsAtEnd (S.left input.new) × (bytes.new.items ≡ bytes.old.items))) }
+    ensures some { IfOk result (λ more. OnTrue more (length bytes.old.items < length bytes.new.items)) }
+    ensures unlimited { IfErr result (λ refusal. refusal ≢ InputRefusal.Limit) }
+    ensures cause { HasCause (S.faults input.old) (S.faults input.new)
+        (IsErrOf result InputRefusal.Fault) }
+{
+    let Ok(count) = input.read(room) else {
+        return Err(InputRefusal::Fault);
+    };
+    match bytes.extend_from_slice(&room[..count]) {
+        Ok(()) => Ok(count != 0),
+        Err(_) => Err(InputRefusal::Memory),
+    }
+}
+
+/// All bytes that the source has left, if they are no more than `most`.
+pub fn read_all<S: Source>(
+    alloc: Global,
+    input: &mut S,
+    most: usize,
+) -> Result<Vec<u8>, InputRefusal>
+    requires { most < 2 ^ 62 }
+    ensures all { IfOk result (λ bytes. IsAll most (S.left input.old) (S.left input.new) bytes.items) }
+    ensures limit { IfErr result (λ refusal. IsTooMuch most (S.left input.old) refusal) }
+    ensures cause { HasCause (S.faults input.old) (S.faults input.new)
+        (IsErrOf result InputRefusal.Fault) }
+{
+    let Ok(mut room) = zeros(alloc, PIECE_BYTES) else {
+        return Err(InputRefusal::Memory);
+    };
+    read_into(alloc, input, &mut room, most)
+}
+
+/// The same, into `room` on the way.
+fn read_into<S: Source>(
+    alloc: Global,
+    input: &mut S,
+    room: &mut [u8],
+    most: usize,
+) -> Result<Vec<u8>, InputRefusal>
+    requires room { 0 < length room.old }
+    requires fits { most < 2 ^ 62 }
+    ensures all { IfOk result (λ bytes. IsAll most (S.left input.old) (S.left input.new) bytes.items) }
+    ensures limit { IfErr result (λ refusal. IsTooMuch most (S.left input.old) refusal) }
+    ensures cause { HasCause (S.faults input.old) (S.faults input.new)
+        (IsErrOf result InputRefusal.Fault) }
+{
+    let mut bytes = Vec::new(alloc);
+    while bytes.len() <= most {
+        let size = room.len().min(most + 1 - bytes.len());
+        if !read_piece(input, &mut room[..size], &mut bytes)? {
+            return Ok(bytes);
+        }
+    }
+    Err(InputRefusal::Limit)
+}

@@ -1,0 +1,65 @@
+//! The program: `rowline rows FIRST SEQ` prints the rows of the data file on standard input.
+//!
+//! | Module | What it has |
+//! |---|---|
+//! | `command` | what the words of a command line ask for |
+//! | `run` | a run of the program over any source and sinks |
+//! | `input`, `output` | reading a source to its end, writing text to a sink |
+//! | `rows` | the rows of a data file of the accepted schema |
+//! | `printing` | printing rows, one line each |
+//! | `ending` | the status and the line of a run that doesn't answer |
+//! | `standard` | readers and writers as sources and sinks |
+#![tactic(auto)]
+
+mod command;
+mod ending;
+mod input;
+mod output;
+mod printing;
+mod rows;
+mod run;
+mod standard;
+#[cfg(test)]
+mod tests;
+
+use crate::ending::{Ending, status_of, tell};
+use crate::run::run_alone;
+use crate::standard::{ReaderSource, WriterSink};
+use avro_wire::Text;
+use std::env;
+use std::io::ErrorKind;
+use std::process::ExitCode;
+
+/// The words behind the program's name. One that isn't UTF-8 is a word of no command.
+fn words_of(rt: &HostRuntime) -> Result<Vec<Text>, Ending> {
+    let arguments = match env::args(rt) {
+        Ok(arguments) => arguments,
+        Err(error) if error.kind() == ErrorKind::InvalidData => return Err(Ending::Usage),
+        Err(_) => return Err(Ending::Memory),
+    };
+    let mut words = Vec::new(rt.alloc());
+    for argument in arguments.skip(1) {
+        let Ok(word) = Text::from_str(rt.alloc(), argument.as_str()) else {
+            return Err(Ending::Memory);
+        };
+        if words.push(word).is_err() {
+            return Err(Ending::Memory);
+        }
+    }
+    Ok(words)
+}
+
+fn main(rt: HostRuntime) -> ExitCode {
+    let alloc = rt.alloc();
+    let mut input = ReaderSource::new(rt.stdin());
+    let mut out = WriterSink::new(rt.stdout());
+    let mut err = WriterSink::new(rt.stderr());
+    let status = match words_of(&rt) {
+        Ok(words) => run_alone(alloc, &words, &mut input, &mut out, &mut err),
+        Err(ending) => {
+            tell(alloc, &mut err, &ending);
+            status_of(&ending)
+        }
+    };
+    ExitCode::from(status)
+}
