@@ -1,4 +1,4 @@
--- What the header of a container file reads as: magic bytes, a map from text to bytes, and a marker.
+-- What the header of a container file reads as: magic bytes, and a map from text to bytes.
 -- Avro 1.11, "Object Container Files"; "Maps" for the map's blocks.
 use Rattle.std.specs.Prelude.{ℕ, zero, suc, ◌+◌, ◌-◌, ℤ, pos, negsuc, Bool, false, not, ◌==◌, ◌&&◌, List, [], ◌∷◌, ◌++◌, length, take, Result, Ok, Err, Option, Some, None, nat_lt, slice_range, codes, if◌then◌else◌}
 use Rattle.std.specs.List.{list_any}
@@ -101,11 +101,12 @@ map_at (suc tries) pairs input place = do
     block ← map_block_at place pairs input count
     map_at tries block.0 input block.1)
 
--- the header has a schema, and no codec but null
+-- no codec is named, or null
 abbrev pub check_codec : Option (List ℕ) → Result (List ℕ) ContainerRefusal
 check_codec None = Ok []
 check_codec (Some name) = if bytes_eq name (codes "null") then Ok [] else Err (Codec name)
 
+-- the header has a schema, and no codec but null
 unfoldable pub checked : List Pair × ℕ → Result (List Pair × ℕ) ContainerRefusal
 checked (pairs, place) = if has_key pairs schema_key then (check_codec (bound_to pairs codec_key) >>= λ _. Ok (pairs, place)) else Err (Header place)
 

@@ -5,7 +5,7 @@
 //! | `refusal` | why bytes are no container |
 //! | `container` | a container as plain data |
 //! | `pairs` | the pairs of a header, with distinct keys |
-//! | `header` | reading the magic bytes, the header's map and the marker |
+//! | `header` | reading the magic bytes and the header's map |
 //! | `block` | reading one block |
 //! | `walk` | the whole framing checked, and its blocks lent one after the other |
 //! | `reading` | a container as plain data, from its bytes |

@@ -11,7 +11,7 @@ use std::alloc::{AllocError, Global};
 use std::collections::BTreeSet;
 use std::marker::Model;
 
-/// The pairs so far, in file order, beside their keys in order: to look a key up costs the
+/// The pairs so far, in file order, beside their keys in order: whether a key stood before costs the
 /// logarithm of their number.
 #[derive(Drop)]
 pub struct Pairs {

@@ -14,9 +14,10 @@ pub enum ContainerRefusal {
     Limit { found: u64 },
     /// The first bytes are not those of a container.
     Magic,
-    /// A number or a key of the header's map is wrong, a key stands twice, or `avro.schema` is
-    /// absent. `place` is where the number or the key's length begins; for an absent schema it is
-    /// where the marker begins.
+    /// A number of the header's map, or the length of a key or a value, is none; a block's size is
+    /// untrue, or its count too large; a key is no text, or stands twice; or `avro.schema` is absent.
+    /// `place` is where the number or length begins; for an absent schema it is where the marker
+    /// begins.
     Header { place: u64 },
     /// The codec is not `null`. `name` is what the header says.
     Codec { name: Bytes },

@@ -1,6 +1,7 @@
 -- Rows one after the other, and blocks of them.
-use Rattle.std.proofs.Common.{◌≡◌, ℕ, zero, suc, ◌+◌, List, [], ◌∷◌, ◌++◌, length, Result, Ok, Err, cond, eqb, refl, sym, ap, ◌∙◌, arith}
+use Rattle.std.proofs.Common.{◌≡◌, ℕ, zero, suc, ◌+◌, List, [], ◌∷◌, ◌++◌, length, Option, Some, None, slice_get, Result, Ok, Err, cond, eqb, refl, sym, ap, ◌∙◌, arith}
 use Rattle.std.specs.Prelude.{pos}
+use Rattle.std.specs.Option.{option_map}
 use Rattle.std.proofs.lemmas.Bool.{eq-eqb, ne_eqb}
 use Rattle.std.proofs.lemmas.List.{length-append}
 use Rattle.words.specs.Reading.{◌>>=◌, map_value, repeated}
@@ -8,7 +9,7 @@ use Rattle.avro_container.specs.declared.container.Block.{Block}
 use Rattle.lineage_cli.specs.declared.rows.Found.{Found}
 use Rattle.lineage_cli.specs.declared.rows.RowsRefusal.{RowsRefusal}
 use Rattle.lineage_cli.specs.declared.rows.RowsRefusal.TheVariants.{Unread}
-use Rattle.lineage_cli.specs.Rows.{Stored, stored_of, row_at, rows_at, counted_rows, rows_of}
+use Rattle.lineage_cli.specs.Rows.{Stored, stored_of, row_at, rows_at, counted_rows, rows_of, rows_read, read_row}
 
 -- rows, and the place after them
 abbrev Read : Type 0
@@ -134,3 +135,21 @@ blocks_end before blocks none = rw none (ap (λ (n : ℕ). Ok n) (omega arith))
 pub counts_from_none : (read : Result (List Stored) RowsRefusal) → map_value (λ (rows : List Stored). 0 + length rows) read ≡ map_value length read
 counts_from_none (Ok rows) = ap (λ (n : ℕ). Ok n) (omega arith)
 counts_from_none (Err e) = refl
+
+-- ---- rows with their ids
+
+-- an id further on, from a first one further back
+later_row : (first sequence position : ℕ) (stored : Option Stored) → option_map (read_row (first + 1) sequence position) stored ≡ option_map (read_row first sequence (suc position)) stored
+later_row first sequence position None = refl
+later_row first sequence position (Some stored) =
+    let same : (first + 1) + position ≡ first + suc position = omega arith in
+    ap (λ (id : ℕ). Some (record { id = id; last = sequence; stored = stored })) same
+
+-- the row that is read at a position is read_row's of what is stored there
+pub rows_read_at : (first sequence position : ℕ) (rows : List Stored) → slice_get (rows_read first sequence rows) position ≡ option_map (read_row first sequence position) (slice_get rows position)
+rows_read_at first sequence position [] = refl
+rows_read_at first sequence zero (stored ∷ others) =
+    let same : first ≡ first + 0 = omega arith in
+    ap (λ (id : ℕ). Some (record { id = id; last = sequence; stored = stored })) same
+rows_read_at first sequence (suc position) (stored ∷ others) =
+    rows_read_at (first + 1) sequence position others ∙ later_row first sequence position (slice_get others position)

@@ -1,5 +1,5 @@
 -- How a run ends that doesn't answer: its status, and its one line.
-use Rattle.std.specs.Prelude.{ℕ, List, ◌++◌, codes, decimal}
+use Rattle.std.specs.Prelude.{ℕ, ◌+◌, List, ◌++◌, codes, decimal}
 use Rattle.std.specs.Fmt.{signed_decimal}
 use Rattle.hex.specs.Hex.{encode_lower}
 use Rattle.avro_container.specs.declared.refusal.ContainerRefusal.TheVariants as container
@@ -8,6 +8,10 @@ use Rattle.lineage_cli.specs.declared.rows.RowsRefusal.TheVariants.{Container, O
 use Rattle.lineage_cli.specs.declared.rows.RowsRefusal.TheVariants as refusals
 use Rattle.lineage_cli.specs.declared.ending.Ending.{Ending}
 use Rattle.lineage_cli.specs.declared.ending.Ending.TheVariants.{Usage, InputFault, InputLimit, Table, OutFault, Memory}
+
+-- the most bytes of the input of rows: 64 MiB
+abbrev pub most_input : ℕ
+most_input = 67108864
 
 -- 3 for a file that is refused, 7 where a limit is passed, 6 for want of memory
 abbrev pub table_status : RowsRefusal → ℕ
@@ -59,4 +63,4 @@ line_of (Table refusal) = table_line refusal
 line_of InputFault = codes "rowline: fault InputFault\n"
 line_of OutFault = codes "rowline: fault OutFault\n"
 line_of Memory = codes "rowline: memory\n"
-line_of InputLimit = codes "rowline: limit Input 67108865\n"
+line_of InputLimit = numbered (codes "rowline: limit Input ") (most_input + 1)

@@ -1,20 +1,20 @@
--- What reading a source to its end does, where the source tells the bytes that are left.
-use Rattle.std.specs.Prelude.{◌≡◌, ℕ, ◌<◌, ◌≤◌, ◌++◌, List, length, Option, IfSome}
+-- What reading a source to its end does to the bytes that it has left, where it tells them.
+use Rattle.std.specs.Prelude.{◌≡◌, ℕ, ◌+◌, ◌≤◌, ◌++◌, List, length, Option}
 use Rattle.std.specs.Io.KnownBytes.{Consumes, IsAtEnd}
 use Rattle.lineage_cli.specs.declared.input.InputRefusal.{InputRefusal}
 use Rattle.lineage_cli.specs.declared.input.InputRefusal.TheVariants.{Fault, Limit, Memory}
 
--- these are all bytes that were left, no more than most, and none is left now
+-- these bytes were taken, no more than most, and none is left now
 pub record IsAll (most : ℕ) (before now : Option (List ℕ)) (bytes : List ℕ) : Type 0 where
-  pub all : IfSome before (λ left. bytes ≡ left)
+  pub taken : Consumes before now bytes
   pub few : length bytes ≤ most
   pub end : IsAtEnd now
 
--- more bytes were left than may be, where that is the refusal
-abbrev pub IsTooMuch : ℕ → Option (List ℕ) → InputRefusal → Type 0
-IsTooMuch most before Limit = IfSome before (λ left. most < length left)
-IsTooMuch most before Fault = Unit {0}
-IsTooMuch most before Memory = Unit {0}
+-- what was taken where not all is: no more than most before a fault, and one byte above it at the limit
+abbrev pub StopsBy : ℕ → Option (List ℕ) → Option (List ℕ) → InputRefusal → Type 0
+StopsBy most before now Fault = (piece : List ℕ) × Consumes before now piece × length piece ≤ most
+StopsBy most before now Limit = (piece : List ℕ) × Consumes before now piece × (length piece ≡ most + 1)
+StopsBy most before now Memory = Unit {0}
 
 -- bytes from the front of those that were left came behind those before, at most so many
 pub record Reads (left leaves : Option (List ℕ)) (before now : List ℕ) (most : ℕ) : Type 0 where

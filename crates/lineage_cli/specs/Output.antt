@@ -3,14 +3,14 @@ use Rattle.std.specs.Prelude.{◌≡◌, ℕ, List, ◌++◌, Option, Some, None
 use Rattle.std.specs.Io.KnownBytes.{Appends, append_known}
 
 -- the known bytes are followed by a front of the text, and by nothing else
-abbrev pub Begins : Option (List ℕ) → Option (List ℕ) → List ℕ → Type 0
-Begins None new text = ⊤
-Begins (Some before) None text = ⊥
-Begins (Some before) (Some now) text = (rest : List ℕ) × (before ++ text ≡ now ++ rest)
+abbrev pub AppendsFront : Option (List ℕ) → Option (List ℕ) → List ℕ → Type 0
+AppendsFront None new text = ⊤
+AppendsFront (Some before) None text = ⊥
+AppendsFront (Some before) (Some now) text = (rest : List ℕ) × (before ++ text ≡ now ++ rest)
 
 -- the text stands behind what was written, or a front of it where the call failed
 abbrev pub Puts : {E : Type 0} → Option (List ℕ) → Option (List ℕ) → Result (Unit {0}) E → List ℕ → Type 0
-Puts before now result text = MatchResult result (λ _. Appends before now text) (λ _. Begins before now text)
+Puts before now result text = MatchResult result (λ _. Appends before now text) (λ _. AppendsFront before now text)
 
 -- what was written, and what waits in the buffer behind it
 abbrev pub shown : Option (List ℕ) → List ℕ → Option (List ℕ)
@@ -18,4 +18,4 @@ shown written buffer = append_known written buffer
 
 -- the text stands behind what is shown, or a front of it was written where the call failed
 abbrev pub Shows : {E : Type 0} → Option (List ℕ) → List ℕ → Option (List ℕ) → List ℕ → Result (Unit {0}) E → List ℕ → Type 0
-Shows before waiting now waits result text = MatchResult result (λ _. Appends (shown before waiting) (shown now waits) text) (λ _. Begins (shown before waiting) now text)
+Shows before waiting now waits result text = MatchResult result (λ _. Appends (shown before waiting) (shown now waits) text) (λ _. AppendsFront (shown before waiting) now text)

@@ -1,6 +1,6 @@
 -- The rows of a data file of the one accepted schema, and the rows that the standard's rules read there.
 -- Avro 1.11, "Records", "Unions"; Iceberg spec, "Row Lineage".
-use Rattle.std.specs.Prelude.{ℕ, zero, suc, ◌+◌, ◌-◌, ◌^◌, ◌==◌, ℤ, pos, negsuc, Bool, true, false, List, [], ◌∷◌, ◌++◌, length, Option, Some, None, Result, Ok, Err, nat_lt, slice_range, if◌then◌else◌}
+use Rattle.std.specs.Prelude.{codes, ℕ, zero, suc, ◌+◌, ◌-◌, ◌^◌, ◌==◌, ℤ, pos, negsuc, Bool, true, false, List, [], ◌∷◌, ◌++◌, length, Option, Some, None, Result, Ok, Err, nat_lt, slice_range, if◌then◌else◌}
 use Rattle.std.specs.Option.{option_map}
 use Rattle.std.specs.Str.{is_utf8, bytes_eq}
 use Rattle.words.specs.Reading.{◌>>=◌, map_refusal}
@@ -9,11 +9,9 @@ use Rattle.avro_wire.specs.Reading.{number_at, bytes_at}
 use Rattle.avro_container.specs.declared.container.Block.{Block}
 use Rattle.avro_container.specs.Header.{Pair, schema_key, bound_to, is_natural}
 use Rattle.avro_container.specs.Container.{container_at}
-use Rattle.avro_container.specs.Refusal.{is_memory as container_memory}
 use Rattle.lineage_cli.specs.declared.rows.Found.{Found}
 use Rattle.lineage_cli.specs.declared.rows.RowsRefusal.{RowsRefusal}
 use Rattle.lineage_cli.specs.declared.rows.RowsRefusal.TheVariants as refusals
-use Rattle.lineage_cli.specs.declared.rows.TheConstants.{ACCEPTED_SCHEMA}
 
 -- a row as it is stored: a number, and a text or null
 pub record Stored : Type 0 where
@@ -67,10 +65,14 @@ rows_of (block ∷ blocks) = do
   others ← rows_of blocks
   Ok (rows ++ others)
 
+-- the accepted schema: a required long n, and an optional string s
+abbrev pub accepted_schema : List ℕ
+accepted_schema = codes "{\"type\":\"record\",\"name\":\"row\",\"fields\":[{\"name\":\"n\",\"type\":\"long\",\"field-id\":1},{\"name\":\"s\",\"type\":[\"null\",\"string\"],\"default\":null,\"field-id\":2}]}"
+
 -- the header's schema is the accepted one, byte for byte
 abbrev pub is_accepted : Option (List ℕ) → Bool
 is_accepted None = false
-is_accepted (Some schema) = bytes_eq schema ACCEPTED_SCHEMA.now
+is_accepted (Some schema) = bytes_eq schema accepted_schema
 
 -- the rows of a container
 unfoldable pub rows_in : List Pair → List Block → Result (List Stored) RowsRefusal
@@ -93,7 +95,11 @@ pub record Row : Type 0 where
   pub last : ℕ
   pub stored : Stored
 
--- the row at each position: its id is the file's first row id plus the position, its last change the file's data sequence number
+-- the row at a position: its id is the file's first row id plus the position, its last change the file's data sequence number
+abbrev pub read_row : ℕ → ℕ → ℕ → Stored → Row
+read_row first sequence position stored = record { id = first + position; last = sequence; stored = stored }
+
+-- the row at each position, in order; proofs/RowsLemmas.antt, rows_read_at
 abbrev pub rows_read : ℕ → ℕ → List Stored → List Row
 rows_read first sequence [] = []
 rows_read first sequence (stored ∷ others) = record { id = first; last = sequence; stored = stored } ∷ rows_read (first + 1) sequence others
@@ -104,4 +110,4 @@ is_memory refusals.Memory = true
 is_memory refusals.OnlyS1 = false
 is_memory refusals.Unread = false
 is_memory (refusals.IdsSpent first rows) = false
-is_memory (refusals.Container refusal) = container_memory refusal
+is_memory (refusals.Container refusal) = false

@@ -1,8 +1,7 @@
 -- What a command answers for the bytes of its input, and why a run ended as it did.
-use Rattle.std.specs.Prelude.{◌≡◌, ◌<◌, ℕ, Bool, true, false, ◌⊎◌, List, [], length, Option, Result, Ok, Err, IfSome, IsErrOf, nat_lt, if◌then◌else◌}
-use Rattle.std.specs.Io.KnownBytes.{Appends, Keeps, IsAtEnd}
+use Rattle.std.specs.Prelude.{◌≡◌, ◌≤◌, ◌+◌, ℕ, Bool, true, false, ◌⊎◌, List, [], length, Option, Result, Ok, Err, IsErrOf, nat_lt, if◌then◌else◌}
+use Rattle.std.specs.Io.KnownBytes.{Appends, Keeps, Consumes, IsAtEnd}
 use Rattle.words.specs.Reading.{◌>>=◌, map_refusal, value_or}
-use Rattle.lt_base.specs.declared.limit.TheConstants.{ROWS_INPUT}
 use Rattle.lt_port.specs.Faults.{Rose}
 use Rattle.lt_port.specs.declared.failure.PortError.{PortError}
 use Rattle.lt_port.specs.declared.failure.PortError.TheVariants.{Failed}
@@ -10,16 +9,18 @@ use Rattle.lineage_cli.specs.declared.command.Command.{Command}
 use Rattle.lineage_cli.specs.declared.command.Command.TheVariants.{Rows}
 use Rattle.lineage_cli.specs.declared.ending.Ending.{Ending}
 use Rattle.lineage_cli.specs.declared.ending.Ending.TheVariants.{Usage, InputFault, InputLimit, Table, OutFault, Memory}
+use Rattle.lineage_cli.specs.declared.input.InputRefusal.TheVariants as refusals
 use Rattle.lineage_cli.specs.Command.{Asks}
-use Rattle.lineage_cli.specs.Ending.{status_of, line_of}
-use Rattle.lineage_cli.specs.Output.{Begins, Puts}
+use Rattle.lineage_cli.specs.Ending.{most_input, status_of, line_of}
+use Rattle.lineage_cli.specs.Input.{StopsBy}
+use Rattle.lineage_cli.specs.Output.{AppendsFront, Puts}
 use Rattle.lineage_cli.specs.Rows.{stored_rows, rows_read}
 use Rattle.lineage_cli.specs.Text.{lines}
 
 -- what the command prints for these bytes, or how it ends
 abbrev pub answer_to : Command → List ℕ → Result (List ℕ) Ending
 answer_to (Rows first sequence) bytes =
-    if nat_lt ROWS_INPUT (length bytes) then Err InputLimit
+    if nat_lt most_input (length bytes) then Err InputLimit
     else map_refusal Table (stored_rows first bytes) >>= λ rows. Ok (lines (rows_read first sequence rows))
 
 -- a source or a sink at one moment: the bytes that are left or written, where it tells them, and its count of faults
@@ -39,7 +40,7 @@ pub record IsPrinted (answer : Result (List ℕ) Ending) (out outs : Stream) : T
 pub record IsCut (answer : Result (List ℕ) Ending) (out outs : Stream) : Type 0 where
   pub text : List ℕ
   pub answered : answer ≡ Ok text
-  pub gained : Begins out.bytes outs.bytes text
+  pub gained : AppendsFront out.bytes outs.bytes text
   pub rose : Rose out.faults outs.faults
 
 -- there is no answer for this cause, and the output gained nothing
@@ -51,43 +52,49 @@ pub record IsRefused (answer : Result (List ℕ) Ending) (ending : Ending) (out 
 abbrev pub IsOutcome : Result (List ℕ) Ending → Stream → Stream → Result (Unit {0}) Ending → Type 0
 IsOutcome answer out outs (Ok done) = IsPrinted answer out outs
 IsOutcome answer out outs (Err OutFault) = IsCut answer out outs
-IsOutcome answer out outs (Err Memory) = Begins out.bytes outs.bytes (value_or [] answer)
-IsOutcome answer out outs (Err Usage) = IsRefused answer Usage out outs
-IsOutcome answer out outs (Err InputFault) = IsRefused answer InputFault out outs
+IsOutcome answer out outs (Err Memory) = AppendsFront out.bytes outs.bytes (value_or [] answer)
 IsOutcome answer out outs (Err InputLimit) = IsRefused answer InputLimit out outs
 IsOutcome answer out outs (Err (Table refusal)) = IsRefused answer (Table refusal) out outs
-
--- why the input was not read: it failed, more bytes were left than may be, or memory ran out
-abbrev pub IsUnread : Ending → Stream → Stream → Type 0
-IsUnread InputFault input inputs = Rose input.faults inputs.faults
-IsUnread InputLimit input inputs = IfSome input.bytes (λ bytes. ROWS_INPUT < length bytes)
-IsUnread Memory input inputs = Unit {0}
-IsUnread Usage input inputs = ⊥
-IsUnread OutFault input inputs = ⊥
-IsUnread (Table refusal) input inputs = ⊥
+IsOutcome answer out outs (Err Usage) = ⊥
+IsOutcome answer out outs (Err InputFault) = ⊥
 
 -- memory ran out, the one free ending
-abbrev pub is_spent : Ending → Bool
-is_spent Memory = true
-is_spent Usage = false
-is_spent InputFault = false
-is_spent InputLimit = false
-is_spent OutFault = false
-is_spent (Table refusal) = false
+abbrev pub is_memory : Ending → Bool
+is_memory Memory = true
+is_memory Usage = false
+is_memory InputFault = false
+is_memory InputLimit = false
+is_memory OutFault = false
+is_memory (Table refusal) = false
 
--- the same for the bytes that were left, where the source tells them
-abbrev pub IsOutcomeOf : Command → Stream → Stream → Stream → Result (Unit {0}) Ending → Type 0
-IsOutcomeOf command input out outs ended = IfSome input.bytes (λ bytes. IsOutcome (answer_to command bytes) out outs ended)
+-- ---- what it does to the input
 
--- why the run of a command ended so: with an answer, the input was read to its end; a failed input prints nothing
+-- why the input was not read: it failed, more bytes were left than may be, or memory ran out
+abbrev pub WhyNotRead : Ending → Stream → Stream → Type 0
+WhyNotRead InputFault input inputs = Rose input.faults inputs.faults × StopsBy most_input input.bytes inputs.bytes refusals.Fault
+WhyNotRead InputLimit input inputs = StopsBy most_input input.bytes inputs.bytes refusals.Limit
+WhyNotRead Memory input inputs = Unit {0}
+WhyNotRead Usage input inputs = ⊥
+WhyNotRead OutFault input inputs = ⊥
+WhyNotRead (Table refusal) input inputs = ⊥
+
+-- the bytes that came: all of them, or one above the limit; and what the command made of them
+pub record IsRead (command : Command) (input inputs out outs : Stream) (ended : Result (Unit {0}) Ending) : Type 0 where
+  pub bytes : List ℕ
+  pub taken : Consumes input.bytes inputs.bytes bytes
+  pub few : length bytes ≤ most_input + 1
+  pub end : length bytes ≤ most_input → IsAtEnd inputs.bytes
+  pub outcome : IsOutcome (answer_to command bytes) out outs ended
+
+-- why the run of a command ended so: by what was read, unless the input failed or memory ran out before; then nothing is printed
 abbrev pub IsReason : Command → Stream → Stream → Stream → Stream → Result (Unit {0}) Ending → Type 0
-IsReason command input inputs out outs (Ok done) = IsAtEnd inputs.bytes × IsOutcomeOf command input out outs (Ok done)
-IsReason command input inputs out outs (Err InputFault) = Rose input.faults inputs.faults × Keeps out.bytes outs.bytes
-IsReason command input inputs out outs (Err OutFault) = IsOutcomeOf command input out outs (Err OutFault)
-IsReason command input inputs out outs (Err Memory) = IsOutcomeOf command input out outs (Err Memory)
-IsReason command input inputs out outs (Err Usage) = IsOutcomeOf command input out outs (Err Usage)
-IsReason command input inputs out outs (Err InputLimit) = IsOutcomeOf command input out outs (Err InputLimit)
-IsReason command input inputs out outs (Err (Table refusal)) = IsOutcomeOf command input out outs (Err (Table refusal))
+IsReason command input inputs out outs (Ok done) = IsRead command input inputs out outs (Ok done)
+IsReason command input inputs out outs (Err OutFault) = IsRead command input inputs out outs (Err OutFault)
+IsReason command input inputs out outs (Err InputLimit) = IsRead command input inputs out outs (Err InputLimit)
+IsReason command input inputs out outs (Err (Table refusal)) = IsRead command input inputs out outs (Err (Table refusal))
+IsReason command input inputs out outs (Err InputFault) = WhyNotRead InputFault input inputs × Keeps out.bytes outs.bytes
+IsReason command input inputs out outs (Err Memory) = IsRead command input inputs out outs (Err Memory) ⊎ Keeps out.bytes outs.bytes
+IsReason command input inputs out outs (Err Usage) = ⊥
 
 -- ---- a run
 

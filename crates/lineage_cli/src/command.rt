@@ -9,7 +9,8 @@ use itoa::Buffer;
 /// A command and its arguments.
 #[derive(Clone, Copy, Debug, PartialEq, Eq)]
 pub enum Command {
-    /// The rows of one data file, whose first row id and data sequence number are given, both of 63 bits.
+    /// The rows of one data file, whose first row id and data sequence number are given. Both are of
+    /// 63 bits.
     Rows { first: u64, sequence: u64 },
 }
 
@@ -29,7 +30,8 @@ pub fn command_of(words: &[Text]) -> Option<Command>
     }
 }
 
-/// The number that the word is the decimal text of, if it is one of 63 bits: no sign, no leading zero.
+/// The number of 63 bits that the word is the decimal text of, without sign or leading zero; None
+/// where it is none.
 fn natural(word: &str) -> Option<u64>
     ensures { MatchOption result
         ((n : ℕ) → n < 2 ^ 63 → word.now ≡ decimal n → ⊥)

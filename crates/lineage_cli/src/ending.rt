@@ -1,18 +1,19 @@
 //! How a run ends that doesn't answer: its status, and its one line.
 
 ghost use Rattle.std.specs.Prelude.{◌≡◌, ◌++◌, codes, IsErrOf};
-ghost use Rattle.lineage_cli.specs.Ending.{status_of as status, line_of, table_status, table_line};
 ghost use Rattle.std.specs.Fmt.{signed_decimal};
+ghost use Rattle.lt_port.specs.Faults.{HasCause};
+ghost use Rattle.lineage_cli.specs.Ending.{status_of as status, line_of, table_status, table_line};
 ghost use Rattle.lineage_cli.specs.Line.{detail_text};
 ghost use Rattle.lineage_cli.specs.Output.{Puts};
 ghost use Rattle.lineage_cli.specs.Run.{IsTold};
-ghost use Rattle.lt_port.specs.Faults.{HasCause};
 
 use crate::output::write_all;
 use crate::rows::RowsRefusal;
 use avro_container::ContainerRefusal;
 use avro_wire::Bytes;
 use itoa::Buffer;
+use lt_base::ROWS_INPUT;
 use lt_port::{PortError, Sink};
 use std::alloc::Global;
 
@@ -33,15 +34,6 @@ pub enum Ending {
     Memory,
 }
 
-/// What stands at the end of a line.
-#[derive(Clone, Copy)]
-enum Detail<'a> {
-    Nothing,
-    Number(u64),
-    Numbers(i64, i64),
-    Hex(&'a Bytes),
-}
-
 /// The exit status.
 pub fn status_of(ending: &Ending) -> u8
     ensures { result ≡ status ending.now }
@@ -53,6 +45,15 @@ pub fn status_of(ending: &Ending) -> u8
         Ending::Memory => 6,
         Ending::InputLimit => 7,
     }
+}
+
+/// Writes the line, or the front of it where `err` fails: that is passed over.
+pub fn tell<E: Sink>(alloc: Global, err: &mut E, ending: &Ending)
+    ensures { IsTold (line_of ending.now)
+        (record { bytes = E.written err.old; faults = E.faults err.old })
+        (record { bytes = E.written err.new; faults = E.faults err.new }) }
+{
+    let _ = write_line(alloc, err, ending);
 }
 
 /// The exit status for a file that is refused.
@@ -69,6 +70,27 @@ fn status_of_table(refusal: &RowsRefusal) -> u8
     }
 }
 
+/// Writes the line, as far as it can be written.
+fn write_line<E: Sink>(alloc: Global, err: &mut E, ending: &Ending) -> Result<(), PortError>
+    ensures text { Puts (E.written err.old) (E.written err.new) result (line_of ending.now) }
+    ensures cause { HasCause (E.faults err.old) (E.faults err.new)
+        (IsErrOf result PortError.Failed) }
+{
+    let (front, detail) = line_parts(ending);
+    write_all(err, front)?;
+    write_detail(alloc, err, detail)?;
+    write_all(err, b"\n")
+}
+
+/// What stands at the end of a line.
+#[derive(Clone, Copy)]
+enum Detail<'a> {
+    Nothing,
+    Number(u64),
+    Numbers(i64, i64),
+    Hex(&'a Bytes),
+}
+
 /// The line's front, and what follows it.
 fn line_parts(ending: &Ending) -> (&'static [u8], Detail<'_>)
     ensures { line_of ending.now ≡ result.0.now ++ (detail_text result.1 ++ codes "\n") }
@@ -79,7 +101,7 @@ fn line_parts(ending: &Ending) -> (&'static [u8], Detail<'_>)
         Ending::InputFault => (b"rowline: fault InputFault", Detail::Nothing),
         Ending::OutFault => (b"rowline: fault OutFault", Detail::Nothing),
         Ending::Memory => (b"rowline: memory", Detail::Nothing),
-        Ending::InputLimit => (b"rowline: limit Input 67108865", Detail::Nothing),
+        Ending::InputLimit => (b"rowline: limit Input ", Detail::Number(ROWS_INPUT + 1)),
     }
 }
 
@@ -100,7 +122,8 @@ fn table_parts(refusal: &RowsRefusal) -> (&'static [u8], Detail<'_>)
 
 /// The same of bytes that are no container.
 fn container_parts(refusal: &ContainerRefusal) -> (&'static [u8], Detail<'_>)
-    ensures { table_line (RowsRefusal.Container refusal.now) ≡ result.0.now ++ (detail_text result.1 ++ codes "\n") }
+    ensures { table_line (RowsRefusal.Container refusal.now)
+        ≡ result.0.now ++ (detail_text result.1 ++ codes "\n") }
 {
     match refusal {
         ContainerRefusal::Limit { found } => (b"rowline: limit Object ", Detail::Number(*found)),
@@ -117,7 +140,8 @@ fn container_parts(refusal: &ContainerRefusal) -> (&'static [u8], Detail<'_>)
 /// Writes what stands at the end of a line.
 fn write_detail<E: Sink>(alloc: Global, err: &mut E, detail: Detail<'_>) -> Result<(), PortError>
     ensures text { Puts (E.written err.old) (E.written err.new) result (detail_text detail.entry) }
-    ensures cause { HasCause (E.faults err.old) (E.faults err.new) (IsErrOf result PortError.Failed) }
+    ensures cause { HasCause (E.faults err.old) (E.faults err.new)
+        (IsErrOf result PortError.Failed) }
 {
     let mut digits = Buffer::new();
     match detail {
@@ -131,10 +155,22 @@ fn write_detail<E: Sink>(alloc: Global, err: &mut E, detail: Detail<'_>) -> Resu
     }
 }
 
+/// Writes two numbers with a space between.
+fn write_numbers<E: Sink>(err: &mut E, first: i64, second: i64) -> Result<(), PortError>
+    ensures text { Puts (E.written err.old) (E.written err.new) result
+        (signed_decimal first ++ (codes " " ++ signed_decimal second)) }
+    ensures cause { HasCause (E.faults err.old) (E.faults err.new)
+        (IsErrOf result PortError.Failed) }
+{
+    write_number(err, first)?;
+    write_second(err, second)
+}
+
 /// Writes a number.
 fn write_number<E: Sink>(err: &mut E, number: i64) -> Result<(), PortError>
     ensures text { Puts (E.written err.old) (E.written err.new) result (signed_decimal number) }
-    ensures cause { HasCause (E.faults err.old) (E.faults err.new) (IsErrOf result PortError.Failed) }
+    ensures cause { HasCause (E.faults err.old) (E.faults err.new)
+        (IsErrOf result PortError.Failed) }
 {
     let mut digits = Buffer::new();
     write_all(err, digits.format(number).as_bytes())
@@ -142,38 +178,11 @@ fn write_number<E: Sink>(err: &mut E, number: i64) -> Result<(), PortError>
 
 /// Writes a space and a number.
 fn write_second<E: Sink>(err: &mut E, number: i64) -> Result<(), PortError>
-    ensures text { Puts (E.written err.old) (E.written err.new) result (codes " " ++ signed_decimal number) }
-    ensures cause { HasCause (E.faults err.old) (E.faults err.new) (IsErrOf result PortError.Failed) }
+    ensures text { Puts (E.written err.old) (E.written err.new) result
+        (codes " " ++ signed_decimal number) }
+    ensures cause { HasCause (E.faults err.old) (E.faults err.new)
+        (IsErrOf result PortError.Failed) }
 {
     write_all(err, b" ")?;
     write_number(err, number)
-}
-
-/// Writes two numbers with a space between.
-fn write_numbers<E: Sink>(err: &mut E, first: i64, second: i64) -> Result<(), PortError>
-    ensures text { Puts (E.written err.old) (E.written err.new) result (signed_decimal first ++ (codes " " ++ signed_decimal second)) }
-    ensures cause { HasCause (E.faults err.old) (E.faults err.new) (IsErrOf result PortError.Failed) }
-{
-    write_number(err, first)?;
-    write_second(err, second)
-}
-
-/// Writes the line, as far as it can be written.
-fn write_line<E: Sink>(alloc: Global, err: &mut E, ending: &Ending) -> Result<(), PortError>
-    ensures text { Puts (E.written err.old) (E.written err.new) result (line_of ending.now) }
-    ensures cause { HasCause (E.faults err.old) (E.faults err.new) (IsErrOf result PortError.Failed) }
-{
-    let (front, detail) = line_parts(ending);
-    write_all(err, front)?;
-    write_detail(alloc, err, detail)?;
-    write_all(err, b"\n")
-}
-
-/// Writes the line, or the front of it where `err` fails: that is passed over.
-pub fn tell<E: Sink>(alloc: Global, err: &mut E, ending: &Ending)
-    ensures { IsTold (line_of ending.now)
-        (record { bytes = E.written err.old; faults = E.faults err.old })
-        (record { bytes = E.written err.new; faults = E.faults err.new }) }
-{
-    let _ = write_line(alloc, err, ending);
 }

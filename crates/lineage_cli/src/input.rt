@@ -2,9 +2,9 @@
 
 ghost use Rattle.std.specs.Prelude.{◌≡◌, ◌≢◌, ◌<◌, ◌^◌, length, IfOk, IfErr, OnOk, IsErrOf};
 ghost use Rattle.std.specs.Bool.{OnTrue, OnFalse};
-ghost use Rattle.std.specs.Io.KnownBytes.{IsAtEnd};
+ghost use Rattle.std.specs.Io.KnownBytes.{IsAtEnd, Keeps};
 ghost use Rattle.lt_port.specs.Faults.{HasCause};
-ghost use Rattle.lineage_cli.specs.Input.{IsAll, IsTooMuch, Reads};
+ghost use Rattle.lineage_cli.specs.Input.{IsAll, StopsBy, Reads};
 
 use lt_port::Source;
 use std::alloc::{AllocError, Global};
@@ -23,36 +23,6 @@ pub enum InputRefusal {
     Memory,
 }
 
-/// So many zero bytes.
-fn zeros(alloc: Global, count: usize) -> Result<Vec<u8>, AllocError>
-    ensures { IfOk result (λ room. length room.items ≡ count) }
-{
-    vec![in alloc; 0; count]
-}
-
-/// Reads one piece of what the source has left behind `bytes`, into `room` on the way. It answers whether there was any.
-fn read_piece<S: Source>(
-    input: &mut S,
-    room: &mut [u8],
-    bytes: &mut Vec<u8>,
-) -> Result<bool, InputRefusal>
-    requires { 0 < length room.old }
-    ensures read { OnOk result (Reads (S.left input.old) (S.left input.new) bytes.old.items bytes.new.items (length room.old)) }
-    ensures end { IfOk result (λ more. OnFalse more (IsAtEnd (S.left input.new) × (bytes.new.items ≡ bytes.old.items))) }
-    ensures some { IfOk result (λ more. OnTrue more (length bytes.old.items < length bytes.new.items)) }
-    ensures unlimited { IfErr result (λ refusal. refusal ≢ InputRefusal.Limit) }
-    ensures cause { HasCause (S.faults input.old) (S.faults input.new)
-        (IsErrOf result InputRefusal.Fault) }
-{
-    let Ok(count) = input.read(room) else {
-        return Err(InputRefusal::Fault);
-    };
-    match bytes.extend_from_slice(&room[..count]) {
-        Ok(()) => Ok(count != 0),
-        Err(_) => Err(InputRefusal::Memory),
-    }
-}
-
 /// All bytes that the source has left, if they are no more than `most`.
 pub fn read_all<S: Source>(
     alloc: Global,
@@ -60,8 +30,10 @@ pub fn read_all<S: Source>(
     most: usize,
 ) -> Result<Vec<u8>, InputRefusal>
     requires { most < 2 ^ 62 }
-    ensures all { IfOk result (λ bytes. IsAll most (S.left input.old) (S.left input.new) bytes.items) }
-    ensures limit { IfErr result (λ refusal. IsTooMuch most (S.left input.old) refusal) }
+    ensures all { IfOk result (λ bytes.
+        IsAll most (S.left input.old) (S.left input.new) bytes.items) }
+    ensures stops { IfErr result (λ refusal.
+        StopsBy most (S.left input.old) (S.left input.new) refusal) }
     ensures cause { HasCause (S.faults input.old) (S.faults input.new)
         (IsErrOf result InputRefusal.Fault) }
 {
@@ -69,6 +41,13 @@ pub fn read_all<S: Source>(
         return Err(InputRefusal::Memory);
     };
     read_into(alloc, input, &mut room, most)
+}
+
+/// So many zero bytes.
+fn zeros(alloc: Global, count: usize) -> Result<Vec<u8>, AllocError>
+    ensures { IfOk result (λ room. length room.items ≡ count) }
+{
+    vec![in alloc; 0; count]
 }
 
 /// The same, into `room` on the way.
@@ -80,8 +59,10 @@ fn read_into<S: Source>(
 ) -> Result<Vec<u8>, InputRefusal>
     requires room { 0 < length room.old }
     requires fits { most < 2 ^ 62 }
-    ensures all { IfOk result (λ bytes. IsAll most (S.left input.old) (S.left input.new) bytes.items) }
-    ensures limit { IfErr result (λ refusal. IsTooMuch most (S.left input.old) refusal) }
+    ensures all { IfOk result (λ bytes.
+        IsAll most (S.left input.old) (S.left input.new) bytes.items) }
+    ensures stops { IfErr result (λ refusal.
+        StopsBy most (S.left input.old) (S.left input.new) refusal) }
     ensures cause { HasCause (S.faults input.old) (S.faults input.new)
         (IsErrOf result InputRefusal.Fault) }
 {
@@ -93,4 +74,33 @@ fn read_into<S: Source>(
         }
     }
     Err(InputRefusal::Limit)
+}
+
+/// Reads one piece of what the source has left behind `bytes`, into `room` on the way. It answers
+/// whether there was any.
+fn read_piece<S: Source>(
+    input: &mut S,
+    room: &mut [u8],
+    bytes: &mut Vec<u8>,
+) -> Result<bool, InputRefusal>
+    requires { 0 < length room.old }
+    ensures read { OnOk result (Reads (S.left input.old) (S.left input.new)
+        bytes.old.items bytes.new.items (length room.old)) }
+    ensures end { IfOk result (λ more. OnFalse more
+        (IsAtEnd (S.left input.new) × (bytes.new.items ≡ bytes.old.items))) }
+    ensures some { IfOk result (λ more. OnTrue more
+        (length bytes.old.items < length bytes.new.items)) }
+    ensures unlimited { IfErr result (λ refusal. refusal ≢ InputRefusal.Limit) }
+    ensures unmoved { IsErrOf result InputRefusal.Fault
+        → Keeps (S.left input.old) (S.left input.new) }
+    ensures cause { HasCause (S.faults input.old) (S.faults input.new)
+        (IsErrOf result InputRefusal.Fault) }
+{
+    let Ok(count) = input.read(room) else {
+        return Err(InputRefusal::Fault);
+    };
+    match bytes.extend_from_slice(&room[..count]) {
+        Ok(()) => Ok(count != 0),
+        Err(_) => Err(InputRefusal::Memory),
+    }
 }

@@ -23,17 +23,44 @@ pub enum RowsRefusal {
     OnlyS1,
     /// The bytes of some block are not its count of rows.
     Unread,
-    /// The file's first row id and its number of rows pass the largest id.
+    /// The file's first row id plus its number of rows is above i64::MAX.
     IdsSpent { first: i64, rows: i64 },
     /// There was no memory.
     Memory,
 }
 
-/// A row, with where its text starts and ends; None is null.
+/// A row, as it is found in the bytes of a block.
 #[derive(Clone, Copy, Debug)]
 pub struct Found {
+    /// The value of `n`.
     pub number: i64,
+    /// Where the text of `s` starts and where it ends, in bytes from 0; None is null.
     pub text: Option<(usize, usize)>,
+}
+
+/// A walk over the blocks of a file whose rows were all checked, and have ids from `first` on.
+#[tactic(auto, unfolding(crate::specs::Rows::stored_rows, crate::specs::Rows::rows_in))]
+pub fn open_rows(alloc: Global, first: u64, input: &[u8]) -> Result<Walk<'_>, RowsRefusal>
+    requires { first < 2 ^ 63 }
+    ensures exact { Gives is_memory (λ walk. value_or [] (rows_of walk.left)) result
+        (stored_rows first input.now) }
+    ensures checked { IfOk result (λ walk. is_ok (rows_of walk.left) ≡ true) }
+    ensures fits { IfOk result (λ walk.
+        first + length (value_or [] (rows_of walk.left)) < 2 ^ 63) }
+{
+    let mut walk = open(alloc, input)?;
+    if !has_accepted_schema(walk.meta()) {
+        return Err(RowsRefusal::OnlyS1);
+    }
+    let rows = check_blocks(&mut walk)?;
+    if rows > i64::MAX as u64 - first {
+        return Err(RowsRefusal::IdsSpent {
+            first: first as i64,
+            rows: rows as i64,
+        });
+    }
+    walk.restart();
+    Ok(walk)
 }
 
 /// The row at `place`, and the place after it.
@@ -67,44 +94,28 @@ pub fn take_row(input: &[u8], place: usize) -> Result<(Found, usize), RowsRefusa
     Ok((Found { number, text }, end))
 }
 
-/// Passes over so many rows from the first byte on: the place after them.
-fn skip_rows(count: u64, bytes: &[u8]) -> Result<usize, RowsRefusal>
-    ensures exact { Gives never (λ after. after) result
-        (map_value (λ rows. rows.1) (rows_at count bytes.now 0)) }
-    ensures within { IfOk result (λ after. (count ≤ after) × (after ≤ length bytes.now)) }
+/// The container of the bytes, opened for its blocks.
+fn open(alloc: Global, input: &[u8]) -> Result<Walk<'_>, RowsRefusal>
+    ensures exact { Gives is_memory (λ walk. walk.whole) result
+        (map_refusal RowsRefusal.Container (container_at input.now)) }
+    ensures start { IfOk result (λ walk. walk.left ≡ walk.whole.blocks) }
+    ensures ahead { IfOk result (λ walk. walk.ahead < 2 ^ 63) }
 {
-    let mut at = 0;
-    for _ in 0..count {
-        let (_, after) = take_row(bytes, at)?;
-        at = after;
+    match open_walk(alloc, input) {
+        Ok(walk) => Ok(walk),
+        Err(ContainerRefusal::Memory) => Err(RowsRefusal::Memory),
+        Err(refusal) => Err(RowsRefusal::Container(refusal)),
     }
-    Ok(at)
 }
 
-/// The count, if the bytes are so many rows.
-fn check_counted(count: u64, bytes: &[u8]) -> Result<u64, RowsRefusal>
-    ensures exact { Gives never (λ rows. rows) result
-        (map_value length (counted_rows (pos count) bytes.now)) }
-    ensures few { IfOk result (λ rows. rows ≤ length bytes.now) }
+/// Whether the file's schema is the accepted one.
+fn has_accepted_schema(meta: &Meta) -> bool
+    ensures { result ≡ is_accepted (value_of meta.now schema_key) }
 {
-    let end = skip_rows(count, bytes)?;
-    if end != bytes.len() {
-        return Err(RowsRefusal::Unread);
+    match bound_to(meta, "avro.schema") {
+        Some(schema) => schema == ACCEPTED_SCHEMA,
+        None => false,
     }
-    Ok(count)
-}
-
-/// How many rows the block has, if its bytes are its count of rows.
-#[tactic(auto, unfolding(crate::specs::Rows::counted_rows))]
-fn check_rows(count: i64, bytes: &[u8]) -> Result<u64, RowsRefusal>
-    ensures exact { Gives never (λ rows. rows) result
-        (map_value length (counted_rows count bytes.now)) }
-    ensures few { IfOk result (λ rows. rows ≤ length bytes.now) }
-{
-    if count < 0 {
-        return Err(RowsRefusal::Unread);
-    }
-    check_counted(count as u64, bytes)
 }
 
 /// How many rows the blocks that are left have.
@@ -121,51 +132,42 @@ fn check_blocks(walk: &mut Walk<'_>) -> Result<u64, RowsRefusal>
     Ok(rows)
 }
 
-/// Whether the file's schema is the accepted one.
-fn has_accepted_schema(meta: &Meta) -> bool
-    ensures { result ≡ is_accepted (value_of meta.now schema_key) }
+/// How many rows the block has, if its bytes are its count of rows.
+#[tactic(auto, unfolding(crate::specs::Rows::counted_rows))]
+fn check_rows(count: i64, bytes: &[u8]) -> Result<u64, RowsRefusal>
+    ensures exact { Gives never (λ rows. rows) result
+        (map_value length (counted_rows count bytes.now)) }
+    ensures few { IfOk result (λ rows. rows ≤ length bytes.now) }
 {
-    match bound_to(meta, "avro.schema") {
-        Some(schema) => schema == ACCEPTED_SCHEMA,
-        None => false,
+    if count < 0 {
+        return Err(RowsRefusal::Unread);
     }
+    check_counted(count as u64, bytes)
 }
 
-/// The container of the bytes, opened for its blocks.
-fn open(alloc: Global, input: &[u8]) -> Result<Walk<'_>, RowsRefusal>
-    ensures exact { Gives is_memory (λ walk. walk.whole) result
-        (map_refusal RowsRefusal.Container (container_at input.now)) }
-    ensures start { IfOk result (λ walk. walk.left ≡ walk.whole.blocks) }
-    ensures ahead { IfOk result (λ walk. walk.ahead < 2 ^ 63) }
+/// The count, if the bytes are so many rows.
+fn check_counted(count: u64, bytes: &[u8]) -> Result<u64, RowsRefusal>
+    ensures exact { Gives never (λ rows. rows) result
+        (map_value length (counted_rows (pos count) bytes.now)) }
+    ensures few { IfOk result (λ rows. rows ≤ length bytes.now) }
 {
-    match open_walk(alloc, input) {
-        Ok(walk) => Ok(walk),
-        Err(ContainerRefusal::Memory) => Err(RowsRefusal::Memory),
-        Err(refusal) => Err(RowsRefusal::Container(refusal)),
+    let end = skip_rows(count, bytes)?;
+    if end != bytes.len() {
+        return Err(RowsRefusal::Unread);
     }
+    Ok(count)
 }
 
-/// A walk over the blocks of a file whose rows were all checked, and have ids from `first` on.
-#[tactic(auto, unfolding(crate::specs::Rows::stored_rows, crate::specs::Rows::rows_in))]
-pub fn open_rows(alloc: Global, first: u64, input: &[u8]) -> Result<Walk<'_>, RowsRefusal>
-    requires { first < 2 ^ 63 }
-    ensures exact { Gives is_memory (λ walk. value_or [] (rows_of walk.left)) result
-        (stored_rows first input.now) }
-    ensures checked { IfOk result (λ walk. is_ok (rows_of walk.left) ≡ true) }
-    ensures fits { IfOk result (λ walk.
-        first + length (value_or [] (rows_of walk.left)) < 2 ^ 63) }
+/// Passes over so many rows from the first byte on: the place after them.
+fn skip_rows(count: u64, bytes: &[u8]) -> Result<usize, RowsRefusal>
+    ensures exact { Gives never (λ after. after) result
+        (map_value (λ rows. rows.1) (rows_at count bytes.now 0)) }
+    ensures within { IfOk result (λ after. (count ≤ after) × (after ≤ length bytes.now)) }
 {
-    let mut walk = open(alloc, input)?;
-    if !has_accepted_schema(walk.meta()) {
-        return Err(RowsRefusal::OnlyS1);
+    let mut at = 0;
+    for _ in 0..count {
+        let (_, after) = take_row(bytes, at)?;
+        at = after;
     }
-    let rows = check_blocks(&mut walk)?;
-    if rows > i64::MAX as u64 - first {
-        return Err(RowsRefusal::IdsSpent {
-            first: first as i64,
-            rows: rows as i64,
-        });
-    }
-    walk.restart();
-    Ok(walk)
+    Ok(at)
 }

@@ -17,7 +17,9 @@ pub struct ReaderSource<R> {
 
 impl<R: Read> ReaderSource<R> {
     /// The reader, of which no call has failed yet.
-    pub fn new(reader: R) -> ReaderSource<R> {
+    pub fn new(reader: R) -> ReaderSource<R>
+        ensures { result ≡ record { reader = reader; faults = 0 } }
+    {
         ReaderSource { reader, faults: 0 }
     }
 }
@@ -29,7 +31,8 @@ impl<R: Read> Source for ReaderSource<R> {
 
     fn read(&mut self, room: &mut [u8]) -> Result<usize, Failed>
         ensures bound { ReadsAtMost result room.new }
-        ensures bytes { ReadConsumes (R.remaining self.old.reader) (R.remaining self.new.reader) result room.new }
+        ensures bytes { ReadConsumes (R.remaining self.old.reader) (R.remaining self.new.reader)
+            result room.new }
         ensures cause { HasCause self.old.faults self.new.faults (IsErr result) }
     {
         for _ in 0..u64::MAX {
@@ -56,7 +59,9 @@ pub struct WriterSink<W> {
 
 impl<W: Write> WriterSink<W> {
     /// The writer, of which no call has failed yet.
-    pub fn new(writer: W) -> WriterSink<W> {
+    pub fn new(writer: W) -> WriterSink<W>
+        ensures { result ≡ record { writer = writer; faults = 0 } }
+    {
         WriterSink { writer, faults: 0 }
     }
 }
@@ -69,7 +74,8 @@ impl<W: Write> Sink for WriterSink<W> {
     fn write(&mut self, piece: &[u8]) -> Result<usize, PortError>
         ensures bound { WritesAtMost result piece.now }
         ensures some { 0 < length piece.now → IfOk result (λ count. 0 < count) }
-        ensures bytes { WriteAppends (W.contents self.old.writer) (W.contents self.new.writer) result piece.now }
+        ensures bytes { WriteAppends (W.contents self.old.writer) (W.contents self.new.writer)
+            result piece.now }
         ensures cause { HasCause self.old.faults self.new.faults (IsErrOf result PortError.Failed) }
     {
         for _ in 0..u64::MAX {

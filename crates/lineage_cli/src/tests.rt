@@ -116,180 +116,105 @@ fn cut(alloc: Global, length: usize) -> Result<Vec<u8>, AllocError> {
 
 const WORDS: &[&str] = &["rows", "1000", "7"];
 
-fn check(
+const THREE_LINES: &str = "1000 7 10 \"a\"\n1001 7 11 null\n1002 7 12 \"b\"\n";
+
+// Whether the run ends so, with ample memory.
+fn ends(
     rt: &impl Abort,
     alloc: Global,
-    name: &str,
     words: &[&str],
     input: &[u8],
-    status: u8,
-    out: &str,
-    err: &str,
+    wanted: (u8, &str, &str),
 ) -> Result<(), Fail> {
+    let (status, out, err) = wanted;
     let ran = run(alloc, words, input, &AMPLE)?;
-    assert_eq!(rt; ran.status, status, "{name}");
-    assert_eq!(rt; ran.out.as_slice(), out.as_bytes(), "{name}");
-    assert_eq!(rt; ran.err.as_slice(), err.as_bytes(), "{name}");
+    assert_eq!(rt; ran.status, status, "{out}{err}");
+    assert_eq!(rt; ran.out.as_slice(), out.as_bytes(), "{out}{err}");
+    assert_eq!(rt; ran.err.as_slice(), err.as_bytes(), "{out}{err}");
     Ok(())
 }
 
-#[test]
-fn files_that_are_read(rt: HostRuntime) -> Result<(), Fail> {
-    let alloc = rt.alloc();
-    let whole = three_rows(alloc)?;
-    let three = "1000 7 10 \"a\"\n1001 7 11 null\n1002 7 12 \"b\"\n";
-    check(&rt, alloc, "three rows", WORDS, &whole, 0, three, "")?;
-    check(
-        &rt,
-        alloc,
-        "the header alone",
-        WORDS,
-        &cut(alloc, 199)?,
-        0,
-        "",
-        "",
-    )?;
-    let none = file_with(accepted_header(alloc)?, 0, 0, b"", MARKER)?;
-    check(&rt, alloc, "a block of no rows", WORDS, &none, 0, "", "")?;
-    let twice = file_with(whole, 6, 20, THREE_ROWS, MARKER)?;
-    let six = "0 0 10 \"a\"\n1 0 11 null\n2 0 12 \"b\"\n3 0 10 \"a\"\n4 0 11 null\n5 0 12 \"b\"\n";
-    check(
-        &rt,
-        alloc,
-        "two blocks",
-        &["rows", "0", "0"],
-        &twice,
-        0,
-        six,
-        "",
-    )
+// Whether the file is printed so.
+fn prints(rt: &impl Abort, alloc: Global, input: &[u8], out: &str) -> Result<(), Fail> {
+    ends(rt, alloc, WORDS, input, (0, out, ""))
+}
+
+// Whether the file is refused so.
+fn refuses(rt: &impl Abort, alloc: Global, input: &[u8], err: &str) -> Result<(), Fail> {
+    ends(rt, alloc, WORDS, input, (3, "", err))
 }
 
 #[test]
-fn texts_are_escaped(rt: HostRuntime) -> Result<(), Fail> {
+fn each_row_of_a_file_has_its_line(rt: HostRuntime) -> Result<(), Fail> {
+    let alloc = rt.alloc();
+    let whole = three_rows(alloc)?;
+    prints(&rt, alloc, &whole, THREE_LINES)?;
+    prints(&rt, alloc, &cut(alloc, 199)?, "")?;
+    let none = file_with(accepted_header(alloc)?, 0, 0, b"", MARKER)?;
+    prints(&rt, alloc, &none, "")?;
+    let twice = file_with(whole, 6, 20, THREE_ROWS, MARKER)?;
+    let six = "1000 7 10 \"a\"\n1001 7 11 null\n1002 7 12 \"b\"\n\
+        1003 7 10 \"a\"\n1004 7 11 null\n1005 7 12 \"b\"\n";
+    prints(&rt, alloc, &twice, six)
+}
+
+#[test]
+fn a_text_is_printed_as_a_literal(rt: HostRuntime) -> Result<(), Fail> {
     let alloc = rt.alloc();
     let objects = b"\x01\x02\x10\"\\\n\r\t\xC3\xA9/";
     let file = file_with(accepted_header(alloc)?, 2, 22, objects, MARKER)?;
-    let line = "0 1 -1 \"\\\"\\\\\\n\\r\\té/\"\n";
-    check(
-        &rt,
-        alloc,
-        "escapes",
-        &["rows", "0", "1"],
-        &file,
-        0,
-        line,
-        "",
-    )
+    prints(&rt, alloc, &file, "1000 7 -1 \"\\\"\\\\\\n\\r\\té/\"\n")
 }
 
 #[test]
-fn files_that_are_refused(rt: HostRuntime) -> Result<(), Fail> {
+fn a_file_is_refused_by_its_first_fault(rt: HostRuntime) -> Result<(), Fail> {
     let alloc = rt.alloc();
+    refuses(&rt, alloc, &cut(alloc, 226)?, "rowline: table Short 211\n")?;
     let marker = [0, 0, 0, 0, 0, 0, 0, 0, 0, 0, 0, 0, 0, 0, 0, 1];
-    let short = "rowline: table Short 211\n";
-    check(
-        &rt,
-        alloc,
-        "a byte short",
-        WORDS,
-        &cut(alloc, 226)?,
-        3,
-        "",
-        short,
-    )?;
-    let other_marker = file_with(accepted_header(alloc)?, 6, 20, THREE_ROWS, &marker)?;
-    let sync = "rowline: table Sync 1\n";
-    check(
-        &rt,
-        alloc,
-        "another marker",
-        WORDS,
-        &other_marker,
-        3,
-        "",
-        sync,
-    )?;
-    check(
-        &rt,
-        alloc,
-        "no byte",
-        WORDS,
-        b"",
-        3,
-        "",
-        "rowline: table Short 0\n",
-    )?;
-    let magic = "rowline: table Magic\n";
-    check(
-        &rt,
-        alloc,
-        "another magic",
-        WORDS,
-        b"Obj\x02\x00",
-        3,
-        "",
-        magic,
-    )?;
+    let unmarked = file_with(accepted_header(alloc)?, 6, 20, THREE_ROWS, &marker)?;
+    refuses(&rt, alloc, &unmarked, "rowline: table Sync 1\n")?;
+    refuses(&rt, alloc, b"", "rowline: table Short 0\n")?;
+    refuses(&rt, alloc, b"Obj\x02\x00", "rowline: table Magic\n")?;
     let deflate = header(alloc, b"\xA6\x02", ACCEPTED_SCHEMA, 14, b"deflate")?;
     let codec = "rowline: table Codec x6465666c617465\n";
-    check(&rt, alloc, "another codec", WORDS, &deflate, 3, "", codec)?;
+    refuses(&rt, alloc, &deflate, codec)?;
     let other = header(alloc, b"\x8E\x05", OTHER_SCHEMA, 8, b"null")?;
     let with_ids = file_with(other, 6, 38, THREE_ROWS_WITH_IDS, MARKER)?;
-    let only = "rowline: table OnlyS1\n";
-    check(&rt, alloc, "another schema", WORDS, &with_ids, 3, "", only)
+    refuses(&rt, alloc, &with_ids, "rowline: table OnlyS1\n")
 }
 
 #[test]
-fn blocks_that_are_not_their_rows(rt: HostRuntime) -> Result<(), Fail> {
+fn a_block_is_its_count_of_rows(rt: HostRuntime) -> Result<(), Fail> {
     let alloc = rt.alloc();
     let unread = "rowline: table Unread\n";
     let fewer = file_with(accepted_header(alloc)?, 4, 20, THREE_ROWS, MARKER)?;
-    check(
-        &rt,
-        alloc,
-        "rows behind the count",
-        WORDS,
-        &fewer,
-        3,
-        "",
-        unread,
-    )?;
+    refuses(&rt, alloc, &fewer, unread)?;
     let more = file_with(accepted_header(alloc)?, 8, 20, THREE_ROWS, MARKER)?;
-    check(
-        &rt,
-        alloc,
-        "fewer rows than the count",
-        WORDS,
-        &more,
-        3,
-        "",
-        unread,
-    )?;
-    let branch = file_with(accepted_header(alloc)?, 2, 4, b"\x14\x04", MARKER)?;
-    check(&rt, alloc, "a third branch", WORDS, &branch, 3, "", unread)?;
-    let text = file_with(accepted_header(alloc)?, 2, 8, b"\x14\x02\x02\xFF", MARKER)?;
-    check(&rt, alloc, "no text", WORDS, &text, 3, "", unread)?;
+    refuses(&rt, alloc, &more, unread)?;
+    let third_branch = file_with(accepted_header(alloc)?, 2, 4, b"\x14\x04", MARKER)?;
+    refuses(&rt, alloc, &third_branch, unread)?;
+    let no_text = file_with(accepted_header(alloc)?, 2, 8, b"\x14\x02\x02\xFF", MARKER)?;
+    refuses(&rt, alloc, &no_text, unread)?;
     let negative = file_with(accepted_header(alloc)?, 1, 0, b"", MARKER)?;
-    let form = "rowline: table Form 1\n";
-    check(&rt, alloc, "a count below 0", WORDS, &negative, 3, "", form)
+    refuses(&rt, alloc, &negative, "rowline: table Form 1\n")
 }
 
 #[test]
-fn ids_that_run_out(rt: HostRuntime) -> Result<(), Fail> {
+fn ids_end_at_the_largest_long(rt: HostRuntime) -> Result<(), Fail> {
     let alloc = rt.alloc();
     let whole = three_rows(alloc)?;
-    let most = ["rows", "9223372036854775804", "7"];
-    let last =
-        "9223372036854775804 7 10 \"a\"\n9223372036854775805 7 11 null\n9223372036854775806 7 12 \"b\"\n";
-    check(&rt, alloc, "the last ids", &most, &whole, 0, last, "")?;
-    let past = ["rows", "9223372036854775805", "7"];
+    let fits = ["rows", "9223372036854775804", "7"];
+    let lines = "9223372036854775804 7 10 \"a\"\n\
+        9223372036854775805 7 11 null\n\
+        9223372036854775806 7 12 \"b\"\n";
+    ends(&rt, alloc, &fits, &whole, (0, lines, ""))?;
     let spent = "rowline: table IdsSpent 9223372036854775805 3\n";
-    check(&rt, alloc, "ids run out", &past, &whole, 3, "", spent)
+    let past = ["rows", "9223372036854775805", "7"];
+    ends(&rt, alloc, &past, &whole, (3, "", spent))
 }
 
 #[test]
-fn words_without_a_form(rt: HostRuntime) -> Result<(), Fail> {
+fn words_without_a_form_are_refused(rt: HostRuntime) -> Result<(), Fail> {
     let alloc = rt.alloc();
     let whole = three_rows(alloc)?;
     let cases: &[&[&str]] = &[
@@ -307,22 +232,13 @@ fn words_without_a_form(rt: HostRuntime) -> Result<(), Fail> {
         &["rows", "1000", "9223372036854775808"],
     ];
     for words in cases {
-        check(
-            &rt,
-            alloc,
-            "words",
-            words,
-            &whole,
-            1,
-            "",
-            "rowline: usage\n",
-        )?;
+        ends(&rt, alloc, words, &whole, (1, "", "rowline: usage\n"))?;
     }
     Ok(())
 }
 
 #[test]
-fn every_cut_of_a_file(rt: HostRuntime) -> Result<(), Fail> {
+fn a_file_that_is_cut_prints_nothing(rt: HostRuntime) -> Result<(), Fail> {
     let alloc = rt.alloc();
     let whole = three_rows(alloc)?;
     for length in 0..whole.len() {
@@ -335,30 +251,31 @@ fn every_cut_of_a_file(rt: HostRuntime) -> Result<(), Fail> {
     Ok(())
 }
 
+// How a run with these words on the file of three rows ends.
+fn run_outside(alloc: Global, outside: &Outside) -> Result<Ran, AllocError> {
+    run(alloc, WORDS, &three_rows(alloc)?, outside)
+}
+
 #[test]
-fn calls_that_fail(rt: HostRuntime) -> Result<(), Fail> {
-    let alloc = rt.alloc();
-    let whole = three_rows(alloc)?;
-    let input_fails = Outside {
-        piece: 100,
-        input_fails: &[2],
-        out_fails: &[],
-        err_fails: &[],
-    };
-    let ran = run(alloc, WORDS, &whole, &input_fails)?;
+fn a_call_that_fails_is_told(rt: HostRuntime) -> Result<(), Fail> {
+    let mut outside = AMPLE;
+    outside.piece = 100;
+    outside.input_fails = &[2];
+    let ran = run_outside(rt.alloc(), &outside)?;
     assert_eq!(rt; ran.status, 5);
     assert!(rt; ran.out.is_empty());
-    assert_eq!(rt;
-        ran.err.as_slice(),
-        b"rowline: fault InputFault\n".as_slice()
-    );
-    let out_fails = Outside {
-        piece: 10,
-        input_fails: &[],
-        out_fails: &[2],
-        err_fails: &[2],
-    };
-    let ran = run(alloc, WORDS, &whole, &out_fails)?;
+    let line = b"rowline: fault InputFault\n".as_slice();
+    assert_eq!(rt; ran.err.as_slice(), line);
+    Ok(())
+}
+
+#[test]
+fn what_was_written_before_a_failing_call_stays(rt: HostRuntime) -> Result<(), Fail> {
+    let mut outside = AMPLE;
+    outside.piece = 10;
+    outside.out_fails = &[2];
+    outside.err_fails = &[2];
+    let ran = run_outside(rt.alloc(), &outside)?;
     assert_eq!(rt; ran.status, 5);
     assert_eq!(rt; ran.out.as_slice(), b"1000 7 10 ".as_slice());
     assert_eq!(rt; ran.err.as_slice(), b"rowline: f".as_slice());
@@ -366,29 +283,21 @@ fn calls_that_fail(rt: HostRuntime) -> Result<(), Fail> {
 }
 
 #[test]
-fn calls_that_move_one_byte(rt: HostRuntime) -> Result<(), Fail> {
-    let alloc = rt.alloc();
-    let whole = three_rows(alloc)?;
-    let slow = Outside {
-        piece: 1,
-        input_fails: &[],
-        out_fails: &[],
-        err_fails: &[],
-    };
-    let ran = run(alloc, WORDS, &whole, &slow)?;
+fn calls_may_move_one_byte(rt: HostRuntime) -> Result<(), Fail> {
+    let mut outside = AMPLE;
+    outside.piece = 1;
+    let ran = run_outside(rt.alloc(), &outside)?;
     assert_eq!(rt; ran.status, 0);
-    let three = "1000 7 10 \"a\"\n1001 7 11 null\n1002 7 12 \"b\"\n";
-    assert_eq!(rt; ran.out.as_slice(), three.as_bytes());
+    assert_eq!(rt; ran.out.as_slice(), THREE_LINES.as_bytes());
     Ok(())
 }
 
 #[test]
-fn inputs_above_the_limit(rt: HostRuntime) -> Result<(), Fail> {
+fn an_input_above_the_limit_is_refused(rt: HostRuntime) -> Result<(), Fail> {
     let alloc = rt.alloc();
     let most = vec![in alloc; 0; 67_108_864]?;
-    let magic = "rowline: table Magic\n";
-    check(&rt, alloc, "the largest", WORDS, &most, 3, "", magic)?;
+    refuses(&rt, alloc, &most, "rowline: table Magic\n")?;
     let over = vec![in alloc; 0; 67_108_865]?;
     let limit = "rowline: limit Input 67108865\n";
-    check(&rt, alloc, "a byte more", WORDS, &over, 7, "", limit)
+    ends(&rt, alloc, WORDS, &over, (7, "", limit))
 }

@@ -5,7 +5,7 @@ use Rattle.std.proofs.lemmas.Int.{to_z-of_z}
 use Rattle.std.proofs.lemmas.Result.{err_from_is_err_and}
 use Rattle.words.specs.Reading.{value_or}
 use Rattle.avro_container.specs.declared.container.Block.{Block}
-use Rattle.lineage_cli.specs.Output.{Begins, shown}
+use Rattle.lineage_cli.specs.Output.{AppendsFront, shown}
 use Rattle.lineage_cli.specs.Rows.{rows_of, counted_rows, rows_read}
 use Rattle.lineage_cli.specs.Text.{lines}
 use Rattle.lineage_cli.proofs.OutputLemmas.{appends_then, begins_then, begins_more}
@@ -43,7 +43,7 @@ returns-in_err-put_rows-clause-text g c =
     let now = g.W.Sink.written c.put_rows.new.out in
     let block = lines (rows_read c.loop-next.next c.args.last (value_or [] (counted_rows (pos c.count_of-count.result) c.in-Some.bytes.now))) in
     let others = lines (rows_read (c.loop-next.next + c.count_of-count.result) c.args.last (value_or [] (rows_of c.next.new.self.left))) in
-    rw p.1 (subst (λ (l : List ℕ). Begins before now l) step.left.whole (begins_more before now (so_far.before ++ block) others (begins_then before mid now so_far.before block so_far.so_far c.in_err-put_rows.ensures.text)))
+    rw p.1 (subst (λ (l : List ℕ). AppendsFront before now l) step.left.whole (begins_more before now (so_far.before ++ block) others (begins_then before mid now so_far.before block so_far.so_far c.in_err-put_rows.ensures.text)))
 
 pub loop-next-preserved : goal.loop-next-preserved
 loop-next-preserved g c =

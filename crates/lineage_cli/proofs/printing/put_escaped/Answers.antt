@@ -3,7 +3,7 @@ use Rattle.std.specs.Prelude.{slice_range}
 use Rattle.std.specs.List.{flat_map}
 use Rattle.std.specs.Io.KnownBytes.{Appends}
 use Rattle.std.proofs.lemmas.Result.{err_from_is_err_and}
-use Rattle.lineage_cli.specs.Output.{Begins, shown}
+use Rattle.lineage_cli.specs.Output.{AppendsFront, shown}
 use Rattle.lineage_cli.specs.Text.{escape}
 use Rattle.lineage_cli.proofs.OutputLemmas.{appends_then, begins_then, begins_more}
 use Rattle.lineage_cli.proofs.TextLemmas.{run_begins, run_goes_on, run_ends, run_part}
@@ -19,7 +19,7 @@ returns-in_err-put_both-clause-text g c =
     let now = g.W.Sink.written c.put_both.new.out in
     let front = flat_map escape (take c.loop-at.plain text) in
     let piece = slice_range text c.loop-at.plain c.loop-at.at ++ c.in-Some.escaped.now in
-    rw p.1 (subst (λ (l : List ℕ). Begins before now l) (run_part text c.loop-at.plain c.loop-at.at c.in-Some.escaped.now c.loop-at.invariant.run c.loop-at-test.true c.in-Some.ensures)
+    rw p.1 (subst (λ (l : List ℕ). AppendsFront before now l) (run_part text c.loop-at.plain c.loop-at.at c.in-Some.escaped.now c.loop-at.invariant.run c.loop-at-test.true c.in-Some.ensures)
     (begins_more before now (front ++ piece) (flat_map escape (drop (c.loop-at.at + 1) text)) (begins_then before mid now front piece c.loop-at.invariant.so_far c.in_err-put_both.ensures.text)))
 
 pub loop-at-preserved : goal.loop-at-preserved

@@ -2,7 +2,7 @@ use Rattle.std.proofs.Common.{◌+◌, ◌-◌, ◌++◌, List, [], ℕ, pos, su
 use Rattle.std.specs.Io.KnownBytes.{Appends}
 use Rattle.std.proofs.lemmas.Result.{err_from_is_err_and}
 use Rattle.words.specs.Reading.{value_or}
-use Rattle.lineage_cli.specs.Output.{Begins, shown}
+use Rattle.lineage_cli.specs.Output.{AppendsFront, shown}
 use Rattle.lineage_cli.specs.Rows.{Row, stored_of, rows_at, counted_rows, rows_read}
 use Rattle.lineage_cli.specs.Text.{row_line, lines}
 use Rattle.lineage_cli.proofs.OutputLemmas.{appends_then, begins_then, begins_more, shows_none}
@@ -33,7 +33,7 @@ returns-in_err-put_row-clause-text g c =
     let row : Row = record { id = c.args.first + c.loop-index.index; last = c.args.last; stored = stored_of c.args.bytes.now c.in-Ok.found } in
     let next = prints_row c.args.bytes.now c.args.first c.args.last c.args.count c.loop-index.index c.loop-index.at c.in-Ok.found c.in-Ok.after so_far.before text c.loop-index-test.true c.in-Ok.ensures.exact so_far.printed in
     let others = lines (rows_read (c.args.first + (c.loop-index.index + 1)) c.args.last (rows_behind (rows_at (c.args.count - (c.loop-index.index + 1)) c.args.bytes.now c.in-Ok.after))) in
-    rw p.1 (subst (λ (l : List ℕ). Begins before now l) next.whole (begins_more before now (so_far.before ++ row_line row) others (begins_then before mid now so_far.before (row_line row) so_far.so_far c.in_err-put_row.ensures.text)))
+    rw p.1 (subst (λ (l : List ℕ). AppendsFront before now l) next.whole (begins_more before now (so_far.before ++ row_line row) others (begins_then before mid now so_far.before (row_line row) so_far.so_far c.in_err-put_row.ensures.text)))
 
 pub loop-index-preserved : goal.loop-index-preserved
 loop-index-preserved g c =
