@@ -132,6 +132,8 @@ fn a_text_keeps_its_characters(rt: HostRuntime) -> Result<(), Fail> {
     let text = Text::from_str(rt.alloc(), "snö")?;
     assert_eq!(rt; text.as_str(), "snö");
     assert_eq!(rt; text.copy(rt.alloc())?.as_str(), "snö");
+    let string = String::from_str(rt.alloc(), "snö")?;
+    assert_eq!(rt; Text::from_string(string).as_str(), "snö");
     Ok(())
 }
 

@@ -1,6 +1,7 @@
 //! Text, which is bytes in UTF-8.
 
 ghost use Rattle.std.specs.Prelude.{◌≡◌, IfOk};
+ghost use Rattle.std.specs.String.{string_bytes};
 
 use std::alloc::{AllocError, Global};
 use std::marker::Model;
@@ -21,6 +22,13 @@ impl Model for Text {
 }
 
 impl Text {
+    /// The string's text. No memory is taken.
+    pub fn from_string(string: String) -> Text
+        ensures { result ≡ string_bytes string }
+    {
+        Text { string }
+    }
+
     /// The same text, in memory of its own. An `Err` says that memory ran out.
     pub fn from_str(alloc: Global, s: &str) -> Result<Text, AllocError>
         ensures { IfOk result (λ t. t ≡ s.now) }

@@ -41,6 +41,13 @@ impl<T> List<T> {
         List { items }
     }
 
+    /// The items, in their order.
+    pub fn into_vec(self) -> Vec<T>
+        ensures { result.items ≡ self }
+    {
+        self.items
+    }
+
     /// The items, lent.
     pub fn as_slice(&self) -> &[T]
         ensures { result.now ≡ self.now }

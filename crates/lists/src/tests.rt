@@ -18,7 +18,10 @@ fn a_list_keeps_its_items_in_order(rt: HostRuntime) -> Result<(), Fail> {
     assert_eq!(rt; list.get(2), None);
     assert!(rt; !list.is_empty());
     let items = Vec::from_slice(rt.alloc(), &[1_u8, 2])?;
-    assert_eq!(rt; List::from_vec(items).as_slice(), [1, 2].as_slice());
+    assert_eq!(rt;
+        List::from_vec(items).into_vec().as_slice(),
+        [1, 2].as_slice()
+    );
     Ok(())
 }
 

@@ -1,3 +1,3 @@
 mod FaultLemmas
-mod ColumnsLemmas
+pub mod ColumnsLemmas
 mod RowMapLemmas

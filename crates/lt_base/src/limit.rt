@@ -3,5 +3,8 @@
 /// The most bytes of one object: a data file, a manifest, a manifest list or a metadata file.
 pub const OBJECT: u64 = 67_108_864;
 
+/// The most bytes of the input of a command, but for `rows`.
+pub const INPUT: u64 = 16_777_216;
+
 /// The most bytes of the input of `rows`.
 pub const ROWS_INPUT: u64 = 67_108_864;

@@ -8,7 +8,7 @@ use std::fmt;
 /// A quantity that has a limit. It prints as the variant's name. docs/FORMATS.md, "Limits".
 #[derive(Clone, Copy, Debug, PartialEq, Eq)]
 pub enum Which {
-    /// The bytes of the input of `rows`.
+    /// The bytes of an input.
     Input,
     /// The bytes of one object.
     Object,

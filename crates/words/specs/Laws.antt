@@ -2,7 +2,7 @@
 use Rattle.std.specs.Prelude.{◌≡◌, ℕ, suc, ◌+◌, ◌-◌, ◌<◌, ◌≤◌, Bool, true, false, Result, Ok, Err}
 use Rattle.std.specs.Bool.{OnFalse}
 use Rattle.std.proofs.Common.{sym, ap, ◌∙◌, arith}
-use Rattle.words.specs.Reading.{◌>>=◌, repeated}
+use Rattle.words.specs.Reading.{◌>>=◌, Gives, repeated}
 
 -- a refusal of a part is one of the whole, and want of memory says nothing of either
 pub refused_so : {P Q : Type 0} (is_memory : Bool) → (P → Q) → OnFalse is_memory P → OnFalse is_memory Q
@@ -37,3 +37,8 @@ pub repeated_init : {S E : Type 0} (step : S → Result S E) (count : ℕ) (s : 
 repeated_init step count s total whole =
     let left : count - 0 ≡ count = omega arith in
     ap (λ (n : ℕ). repeated step n s) left ∙ whole
+
+-- what is read is given
+pub gives_read : {X E : Type 0} (is_memory : E → Bool) (result read : Result X E) → result ≡ read → Gives is_memory (λ x. x) result read
+gives_read is_memory (Ok x) read h = sym h
+gives_read is_memory (Err e) read h = refused_for_certain (is_memory e) (sym h)
