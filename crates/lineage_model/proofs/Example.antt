@@ -1,0 +1,63 @@
+-- A small table that is upgraded, gets a row and is compacted: its steps are legal.
+use Rattle.std.proofs.Common.{◌≡◌, ℕ, ℤ, pos, [], ◌∷◌, Option, Some, None, refl}
+use Rattle.lt_base.specs.declared.request.Request.TheVariants.{Append, Compact, Upgrade}
+use Rattle.lt_base.specs.declared.entry.Entry.{Entry}
+use Rattle.lt_base.specs.declared.state.State.{State}
+use Rattle.lineage_model.specs.Ids.{ids_from, is_rising}
+use Rattle.lineage_model.specs.Step.{broken_rule, applied, LegalStep}
+use Rattle.lineage_model.specs.History.{IsHistory, AreLegal, state_after}
+
+-- a table without rows
+abbrev pub empty : ℕ → Option ℤ → State
+empty version next = record { version = version; unnamed = []; rows = []; next = next; seq = pos 0 }
+
+-- a table with one row
+abbrev pub one_row : ℤ → State
+one_row seq = record { version = 3; unnamed = []; rows = (pos 0, (pos 1, [])) ∷ []; next = Some (pos 1); seq = seq }
+
+-- the entry that upgrades it
+abbrev pub upgrade : Entry
+upgrade = record { who = 1; request = Upgrade; seq = None; named = []; given = []; next = Some (pos 0) }
+
+-- the entry that appends a row without cells
+abbrev pub append : Entry
+append = record { who = 1; request = Append ([] ∷ []); seq = Some (pos 1); named = []; given = record { first = pos 0; count = pos 1 } ∷ []; next = Some (pos 1) }
+
+-- the entry that compacts it
+abbrev pub compact : Entry
+compact = record { who = 1; request = Compact []; seq = Some (pos 2); named = []; given = []; next = Some (pos 1) }
+
+-- the upgrade is legal
+pub upgrade_is_legal : LegalStep (empty 2 None) upgrade (empty 3 (Some (pos 0)))
+unfolding broken_rule applied is_rising ids_from
+upgrade_is_legal = record { legal = refl; state = refl }
+
+-- so is the append behind it
+pub append_is_legal : LegalStep (empty 3 (Some (pos 0))) append (one_row (pos 1))
+unfolding broken_rule applied is_rising ids_from
+append_is_legal = record { legal = refl; state = refl }
+
+-- so is the compaction behind that
+pub compact_is_legal : LegalStep (one_row (pos 1)) compact (one_row (pos 2))
+unfolding broken_rule applied is_rising ids_from
+compact_is_legal = record { legal = refl; state = refl }
+
+-- the upgrade alone is a legal history
+pub upgrade_is_history : IsHistory (empty 2 None) (upgrade ∷ []) (empty 3 (Some (pos 0)))
+unfolding broken_rule applied is_rising ids_from AreLegal state_after
+upgrade_is_history = record { opening = refl; legal = (refl, tt); state = refl }
+
+-- the append goes on from there
+pub append_goes_on : AreLegal (empty 3 (Some (pos 0))) (append ∷ [])
+unfolding broken_rule applied is_rising ids_from AreLegal
+append_goes_on = (refl, tt)
+
+-- to the table with one row
+pub append_goes_to : one_row (pos 1) ≡ state_after (empty 3 (Some (pos 0))) (append ∷ [])
+unfolding applied is_rising ids_from state_after
+append_goes_to = refl
+
+-- both are a legal history
+pub both_are_history : IsHistory (empty 2 None) (upgrade ∷ append ∷ []) (one_row (pos 1))
+unfolding broken_rule applied is_rising ids_from AreLegal state_after
+both_are_history = record { opening = refl; legal = (refl, (refl, tt)); state = refl }

@@ -1,0 +1,12 @@
+mod Distinct
+mod Rules
+mod RowLemmas
+mod Cases
+mod Right
+mod Leads
+mod Step
+mod Given
+mod NextId
+mod Appends
+mod Unchanged
+mod Example

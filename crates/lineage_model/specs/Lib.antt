@@ -1,0 +1,7 @@
+pub mod RuleName
+pub mod Ids
+pub mod Rows
+pub mod Asked
+pub mod Opening
+pub mod Step
+pub mod History

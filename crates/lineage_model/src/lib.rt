@@ -1,0 +1,17 @@
+//! What a history of a table is: its states, the rules of a step, and the ids that it gives.
+//!
+//! The definitions lie in `specs/`; the code has only the names of the rules, and laws.
+//!
+//! | Module | What it has |
+//! |---|---|
+//! | `rule` | the rules that a step can break |
+//! | `laws` | what follows for every legal history |
+//! | `tests` | the names of the rules, and the laws at a small table |
+#![tactic(auto)]
+
+pub mod laws;
+mod rule;
+#[cfg(test)]
+mod tests;
+
+pub use rule::Rule;

@@ -1,0 +1,157 @@
+//! The names of the rules, and each law at a small table.
+
+ghost use Rattle.std.specs.Prelude.{◌≡◌, pos, [], ◌∷◌, Some, None, IfOk};
+ghost use Rattle.lt_base.specs.declared.request.Request.TheVariants.{Append, Compact, Upgrade};
+
+use super::laws::*;
+use super::*;
+use lists::List;
+use lt_base::{Entries, Entry, Request, RowMap, Run, State};
+use std::alloc::{AllocError, Global};
+use std::test::*;
+
+#[test]
+fn a_rule_prints_as_its_name(rt: HostRuntime) -> Result<(), Fail> {
+    let table = [
+        (Rule::Start, "Start"),
+        (Rule::Version, "Version"),
+        (Rule::Unnamed, "Unnamed"),
+        (Rule::Seq, "Seq"),
+        (Rule::Next, "Next"),
+        (Rule::Named, "Named"),
+        (Rule::Given, "Given"),
+        (Rule::Fresh, "Fresh"),
+        (Rule::Asked, "Asked"),
+    ];
+    for (rule, name) in table {
+        assert_eq!(rt; format!(in rt.alloc(); "{rule}")?.as_str(), name);
+    }
+    Ok(())
+}
+
+/// A table without rows.
+fn empty(alloc: Global, version: u8, next: Option<i64>) -> State
+    ensures { result ≡ record {
+      version = version;
+      unnamed = [];
+      rows = [];
+      next = next;
+      seq = pos 0;
+    } }
+{
+    State {
+        version,
+        unnamed: List::new(alloc),
+        rows: RowMap::new(alloc),
+        next,
+        seq: 0,
+    }
+}
+
+/// A table with one row without cells, which came by the first commit.
+fn one_row(alloc: Global, seq: i64) -> Result<State, AllocError>
+    ensures { IfOk result (λ state. state ≡ record {
+      version = 3;
+      unnamed = [];
+      rows = (pos 0, (pos 1, [])) ∷ [];
+      next = Some (pos 1);
+      seq = seq;
+    }) }
+{
+    let mut rows = RowMap::new(alloc);
+    rows.insert(0, 1, List::new(alloc))?;
+    Ok(State {
+        version: 3,
+        unnamed: List::new(alloc),
+        rows,
+        next: Some(1),
+        seq,
+    })
+}
+
+fn upgrade(alloc: Global) -> Entry
+    ensures { result ≡ record {
+      who = 1;
+      request = Upgrade;
+      seq = None;
+      named = [];
+      given = [];
+      next = Some (pos 0);
+    } }
+{
+    Entry {
+        who: 1,
+        request: Request::Upgrade,
+        seq: None,
+        named: List::new(alloc),
+        given: List::new(alloc),
+        next: Some(0),
+    }
+}
+
+fn append(alloc: Global) -> Result<Entry, AllocError>
+    ensures { IfOk result (λ entry. entry ≡ record {
+      who = 1;
+      request = Append ([] ∷ []);
+      seq = Some (pos 1);
+      named = [];
+      given = record { first = pos 0; count = pos 1 } ∷ [];
+      next = Some (pos 1);
+    }) }
+{
+    let mut rows = List::new(alloc);
+    rows.push(List::new(alloc))?;
+    let mut given = List::new(alloc);
+    given.push(Run { first: 0, count: 1 })?;
+    Ok(Entry {
+        who: 1,
+        request: Request::Append(rows),
+        seq: Some(1),
+        named: List::new(alloc),
+        given,
+        next: Some(1),
+    })
+}
+
+fn compact(alloc: Global) -> Entry
+    ensures { result ≡ record {
+      who = 1;
+      request = Compact [];
+      seq = Some (pos 2);
+      named = [];
+      given = [];
+      next = Some (pos 1);
+    } }
+{
+    Entry {
+        who: 1,
+        request: Request::Compact(List::new(alloc)),
+        seq: Some(2),
+        named: List::new(alloc),
+        given: List::new(alloc),
+        next: Some(1),
+    }
+}
+
+#[test]
+fn the_laws_hold_of_a_table_that_is_upgraded_and_gets_a_row(rt: HostRuntime) -> Result<(), Fail> {
+    let alloc = rt.alloc();
+    let start = empty(alloc, 2, None);
+    let upgraded = empty(alloc, 3, Some(0));
+    let end = one_row(alloc, 1)?;
+    let compacted = one_row(alloc, 2)?;
+    let upgrade = upgrade(alloc);
+    let compact = compact(alloc);
+    an_upgrade_changes_no_row(&start, &upgrade, &upgraded);
+    a_compaction_changes_no_row(&end, &compact, &compacted);
+    let mut entries: Entries = List::new(alloc);
+    entries.push(upgrade)?;
+    let last = append(alloc)?;
+    an_append_keeps_each_row(&start, &entries, &upgraded, &last, &end);
+    let mut later: Entries = List::new(alloc);
+    later.push(append(alloc)?)?;
+    next_never_falls(&start, &entries, &upgraded, &later, &end);
+    entries.push(last)?;
+    no_id_is_given_twice(&start, &entries, &end);
+    Ok(())
+}
