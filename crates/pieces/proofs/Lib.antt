@@ -1,0 +1,10 @@
+pub mod WordLemmas
+pub mod WordLaws
+pub mod NumberLemmas
+pub mod NumberLaws
+pub mod LiteralSteps
+pub mod LiteralRuns
+pub mod LiteralLaws
+pub mod HexSteps
+pub mod HexLaws
+pub mod ManyLaws
