@@ -1,0 +1,40 @@
+//! Histories: the texts of their requests and entries, and the audit that tries each entry as a
+//! step from the state before it.
+//!
+//! | Module | What it has |
+//! |---|---|
+//! | `refusal` | why a text or a history is refused |
+//! | `runs` | runs of ids in a text |
+//! | `paths` | distinct paths |
+//! | `request`, `entry` | requests and entries in a text |
+//! | `ids` | the ids of runs, one by one |
+//! | `opening` | the test of the state that a history begins with |
+//! | `rules` | the rules of one entry |
+//! | `step` | the state after an entry |
+//! | `history` | the audit of a whole history |
+//! | `request_tests`, `entry_tests` | requests, runs and entries by hand |
+//! | `tests` | histories by hand, and what is said of them |
+#![tactic(auto)]
+
+mod entry;
+#[cfg(test)]
+mod entry_tests;
+mod history;
+mod ids;
+mod opening;
+mod paths;
+mod refusal;
+mod request;
+#[cfg(test)]
+mod request_tests;
+mod rules;
+mod runs;
+mod step;
+#[cfg(test)]
+mod tests;
+
+pub use entry::{print_entry, read_entry};
+pub use history::audit;
+pub use lineage_model::Rule;
+pub use refusal::HistoryRefusal;
+pub use request::{print_request, put_request, read_request, take_request};
