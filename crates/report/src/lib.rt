@@ -1,0 +1,30 @@
+//! The printed report of a history: the columns, the state that it begins with, and its entries.
+//!
+//! | Module | What it has |
+//! |---|---|
+//! | `refusal` | why bytes are no report |
+//! | `schema_line` | the line of the columns |
+//! | `start_line` | the line of the state at the start, without its rows |
+//! | `row_line` | the line of a row |
+//! | `stage` | one line behind those that were read |
+//! | `reading` | all lines of a report |
+//! | `printing` | reports as they are printed |
+//! | `tests`, `printing_tests` | reports by hand, read and printed |
+#![tactic(auto)]
+
+mod printing;
+#[cfg(test)]
+mod printing_tests;
+mod reading;
+mod refusal;
+mod row_line;
+mod schema_line;
+mod stage;
+mod start_line;
+#[cfg(test)]
+mod tests;
+
+pub use printing::{print_columns, print_report};
+pub use reading::read_report;
+pub use refusal::ReportRefusal;
+pub use stage::Report;
