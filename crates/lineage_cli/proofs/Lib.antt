@@ -3,3 +3,4 @@ pub mod RowsLemmas
 pub mod TextLemmas
 pub mod PrintLemmas
 pub mod RunLemmas
+pub mod AuditLemmas

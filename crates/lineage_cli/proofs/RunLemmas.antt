@@ -1,95 +1,107 @@
 -- Why a run ended so whose input was read, and one whose input was not.
-use Rattle.std.proofs.Common.{◌≡◌, ◌<◌, ◌≤◌, ◌+◌, ℕ, Bool, cond, List, length, Option, Some, None, Result, Ok, Err, refl, sym, ap, subst, arith, inl, inr}
+use Rattle.std.proofs.Common.{◌≡◌, ◌<◌, ◌≤◌, ◌+◌, ◌∙◌, ℕ, Bool, true, false, cond, List, length, Option, Some, None, Result, Ok, Err, refl, sym, ap, subst, arith, inr}
 use Rattle.std.specs.Bool.{OnFalse}
 use Rattle.std.proofs.lemmas.Bool.{le-ltb, lt-ltb}
 use Rattle.std.specs.Io.KnownBytes.{Keeps}
 use Rattle.words.specs.Reading.{◌>>=◌, map_refusal}
+use Rattle.words.specs.Laws.{refused_so}
 use Rattle.lineage_cli.specs.declared.command.Command.{Command}
 use Rattle.lineage_cli.specs.declared.command.Command.TheVariants as commands
 use Rattle.lineage_cli.specs.declared.ending.Ending.{Ending}
-use Rattle.lineage_cli.specs.declared.ending.Ending.TheVariants.{Usage, InputFault, InputLimit, Table, OutFault, Memory}
+use Rattle.lineage_cli.specs.declared.ending.Ending.TheVariants.{Usage, InputFault, InputLimit, Input, Table, Illegal, OutFault, Memory}
 use Rattle.lineage_cli.specs.declared.rows.RowsRefusal.{RowsRefusal}
-use Rattle.lineage_cli.specs.Ending.{most_input}
-use Rattle.lineage_cli.specs.Input.{IsAll}
+use Rattle.lineage_cli.specs.Input.{most_input}
 use Rattle.lineage_cli.specs.Rows.{Stored, stored_rows, rows_read}
 use Rattle.lineage_cli.specs.Text.{lines}
-use Rattle.lineage_cli.specs.Run.{answer_to, Stream, is_memory, IsOutcome, IsRefused, IsRead, WhyNotRead, IsReason}
+use Rattle.lineage_cli.specs.Run.{answer_of, answer_to, Stream, is_memory, IsOutcome, IsRefused, WhyNotRead, IsReason}
 use Rattle.lineage_cli.proofs.OutputLemmas.{begins_still}
-
--- the answer of rows read, or refused
-abbrev pub answer_of : ℕ → ℕ → Result (List Stored) RowsRefusal → Result (List ℕ) Ending
-answer_of first sequence read = map_refusal Table read >>= λ rows. Ok (lines (rows_read first sequence rows))
 
 -- known bytes keep as they are
 pub keeps_still : (known : Option (List ℕ)) → Keeps known known
 keeps_still None = tt
 keeps_still (Some xs) = refl
 
--- all bytes that were left came, within the limit
-whole_read : (command : Command) (input inputs out outs : Stream) (bytes : List ℕ) (ended : Result (Unit {0}) Ending) → IsAll most_input input.bytes inputs.bytes bytes → IsOutcome (answer_to command bytes) out outs ended → IsRead command input inputs out outs ended
-whole_read command input inputs out outs bytes ended all outcome =
-    record {
-      bytes = bytes;
-      taken = all.taken;
-      few = omega (arith, all.few);
-      end = λ few. all.end;
-      outcome = outcome;
-    }
+-- bytes within the limit have the command's own answer
+pub answer_within : (command : Command) (bytes : List ℕ) → length bytes ≤ most_input command → answer_to command bytes ≡ answer_of command bytes
+answer_within command bytes few =
+    ap (λ (over : Bool). cond over (Err (InputLimit (most_input command + 1))) (answer_of command bytes)) (le-ltb (most_input command) (length bytes) few)
+
+-- ---- the input was read, and is refused
+
+-- an ending that a command's answer may be
+abbrev pub is_answer : Ending → Bool
+is_answer Usage = false
+is_answer InputFault = false
+is_answer OutFault = false
+is_answer Memory = true
+is_answer (InputLimit found) = true
+is_answer (Input line) = true
+is_answer (Table refusal) = true
+is_answer (Illegal entry rule) = true
 
 -- a refusal is the answer
-pub refused_answer : (first sequence : ℕ) (read : Result (List Stored) RowsRefusal) (ending : Ending) (out : Stream) → map_refusal Table read ≡ Err ending → IsRefused (answer_of first sequence read) ending out out
-refused_answer first sequence read ending out refused =
+refused_answer : (answer : Result (List ℕ) Ending) (ending : Ending) (out : Stream) → answer ≡ Err ending → IsRefused answer ending out out
+refused_answer answer ending out refused = record { cause = refused; kept = keeps_still out.bytes }
+
+-- an answer that is refused, or for which memory ran out
+pub refused_outcome : (answer : Result (List ℕ) Ending) (ending : Ending) (out : Stream) → ((other : Ending) → answer ≡ Err other → is_answer other ≡ true) → OnFalse (is_memory ending) (answer ≡ Err ending) → IsOutcome answer out out (Err ending)
+refused_outcome answer Memory out answers refused = begins_still out.bytes _
+refused_outcome answer (InputLimit found) out answers refused = refused_answer answer (InputLimit found) out refused
+refused_outcome answer (Input line) out answers refused = refused_answer answer (Input line) out refused
+refused_outcome answer (Table why) out answers refused = refused_answer answer (Table why) out refused
+refused_outcome answer (Illegal entry rule) out answers refused = refused_answer answer (Illegal entry rule) out refused
+refused_outcome answer OutFault out answers refused = absurd (cc (answers OutFault refused))
+refused_outcome answer Usage out answers refused = absurd (cc (answers Usage refused))
+refused_outcome answer InputFault out answers refused = absurd (cc (answers InputFault refused))
+
+-- the same for bytes within the limit
+pub refused_within : (command : Command) (bytes : List ℕ) (ending : Ending) (out : Stream) → length bytes ≤ most_input command → ((other : Ending) → answer_of command bytes ≡ Err other → is_answer other ≡ true)
+    → OnFalse (is_memory ending) (answer_of command bytes ≡ Err ending) → IsOutcome (answer_to command bytes) out out (Err ending)
+refused_within command bytes ending out few answers refused =
+    subst (λ (answer : Result (List ℕ) Ending). IsOutcome answer out out (Err ending)) (sym (answer_within command bytes few)) (refused_outcome (answer_of command bytes) ending out answers refused)
+
+-- the answer of rows read, or refused
+abbrev rows_answer : ℕ → ℕ → Result (List Stored) RowsRefusal → Result (List ℕ) Ending
+rows_answer first sequence read = map_refusal Table read >>= λ rows. Ok (lines (rows_read first sequence rows))
+
+rows_answers : (first sequence : ℕ) (read : Result (List Stored) RowsRefusal) (ending : Ending) → rows_answer first sequence read ≡ Err ending → is_answer ending ≡ true
+rows_answers first sequence (Ok rows) ending refused = absurd cc
+rows_answers first sequence (Err why) ending refused = let e : Table why ≡ ending = cc in sym (ap is_answer e)
+
+rows_so : (first sequence : ℕ) (read : Result (List Stored) RowsRefusal) (ending : Ending) → OnFalse (is_memory ending) (map_refusal Table read ≡ Err ending) → OnFalse (is_memory ending) (rows_answer first sequence read ≡ Err ending)
+rows_so first sequence read ending refused = refused_so (is_memory ending) (ap (λ (r : Result (List Stored) Ending). r >>= λ rows. Ok (lines (rows_read first sequence rows)))) refused
+
+-- rows that are refused, or for which memory ran out
+pub refused_rows : (first sequence : ℕ) (bytes : List ℕ) (ending : Ending) (out : Stream) → length bytes ≤ most_input (commands.Rows first sequence) → OnFalse (is_memory ending) (map_refusal Table (stored_rows first bytes) ≡ Err ending)
+    → IsOutcome (answer_to (commands.Rows first sequence) bytes) out out (Err ending)
+refused_rows first sequence bytes ending out few refused =
+    refused_within (commands.Rows first sequence) bytes ending out few (rows_answers first sequence (stored_rows first bytes)) (rows_so first sequence (stored_rows first bytes) ending refused)
+
+-- ---- the input was not read
+
+-- more bytes than may be
+too_much : (command : Command) (bytes : List ℕ) (found : ℕ) (out : Stream) → length bytes ≡ most_input command + 1 → found ≡ most_input command + 1 → IsRefused (answer_to command bytes) (InputLimit found) out out
+too_much command bytes found out many is =
+    let over : most_input command < length bytes = omega (arith, many) in
     record {
-      cause = ap (λ (r : Result (List Stored) Ending). r >>= λ rows. Ok (lines (rows_read first sequence rows))) refused;
+      cause = ap (λ (b : Bool). cond b (Err (InputLimit (most_input command + 1))) (answer_of command bytes)) (lt-ltb (most_input command) (length bytes) over) ∙ ap (λ (n : ℕ). Err (InputLimit n)) (sym is);
       kept = keeps_still out.bytes;
     }
 
--- rows that are refused, or for which memory ran out
-pub refused_outcome : (first sequence : ℕ) (read : Result (List Stored) RowsRefusal) (ending : Ending) (out : Stream) → OnFalse (is_memory ending) (map_refusal Table read ≡ Err ending) → IsOutcome (answer_of first sequence read) out out (Err ending)
-refused_outcome first sequence read Memory out refused = begins_still out.bytes _
-refused_outcome first sequence read InputLimit out refused = refused_answer first sequence read InputLimit out refused
-refused_outcome first sequence read (Table why) out refused = refused_answer first sequence read (Table why) out refused
-refused_outcome first sequence (Ok rows) OutFault out refused = absurd cc
-refused_outcome first sequence (Err why) OutFault out refused = absurd cc
-refused_outcome first sequence (Ok rows) Usage out refused = absurd cc
-refused_outcome first sequence (Err why) Usage out refused = absurd cc
-refused_outcome first sequence (Ok rows) InputFault out refused = absurd cc
-refused_outcome first sequence (Err why) InputFault out refused = absurd cc
-
--- the same for bytes within the limit
-pub refused_rows : (first sequence : ℕ) (bytes : List ℕ) (ending : Ending) (out : Stream) → length bytes ≤ most_input → OnFalse (is_memory ending) (map_refusal Table (stored_rows first bytes) ≡ Err ending)
-    → IsOutcome (answer_to (commands.Rows first sequence) bytes) out out (Err ending)
-refused_rows first sequence bytes ending out few refused =
-    subst (λ (over : Bool). IsOutcome (cond over (Err InputLimit) (answer_of first sequence (stored_rows first bytes))) out out (Err ending)) (sym (le-ltb most_input (length bytes) few)) (refused_outcome first sequence (stored_rows first bytes) ending out refused)
-
--- more bytes than may be
-pub too_much : (first sequence : ℕ) (bytes : List ℕ) (out : Stream) → length bytes ≡ most_input + 1 → IsRefused (answer_to (commands.Rows first sequence) bytes) InputLimit out out
-too_much first sequence bytes out many =
-    let over : most_input < length bytes = omega (arith, many) in
-    rw (lt-ltb most_input (length bytes) over) (record { cause = refl; kept = keeps_still out.bytes })
-
 -- the input was not read
-pub unread_reason : (first sequence : ℕ) (input inputs out : Stream) (ending : Ending) → WhyNotRead ending input inputs → IsReason (commands.Rows first sequence) input inputs out out (Err ending)
-unread_reason first sequence input inputs out InputFault why = (why, keeps_still out.bytes)
-unread_reason first sequence input inputs out InputLimit why =
+pub unread_reason : (command : Command) (input inputs out : Stream) (ending : Ending) → WhyNotRead (most_input command) ending input inputs → IsReason command input inputs out out (Err ending)
+unread_reason command input inputs out InputFault why = (why, keeps_still out.bytes)
+unread_reason command input inputs out (InputLimit found) why =
     record {
-      bytes = why.0;
-      taken = why.1;
-      few = omega (arith, why.2);
-      end = λ few. absurd (omega (arith, why.2, few));
-      outcome = too_much first sequence why.0 out why.2;
+      bytes = why.1.0;
+      taken = why.1.1;
+      few = omega (arith, why.1.2);
+      end = λ few. absurd (omega (arith, why.1.2, few));
+      outcome = too_much command why.1.0 found out why.1.2 why.0;
     }
-unread_reason first sequence input inputs out Memory why = inr (keeps_still out.bytes)
-unread_reason first sequence input inputs out Usage why = absurd why
-unread_reason first sequence input inputs out OutFault why = absurd why
-unread_reason first sequence input inputs out (Table refusal) why = absurd why
-
--- all of the input was read
-pub read_reason : (command : Command) (input inputs out outs : Stream) (bytes : List ℕ) (ended : Result (Unit {0}) Ending) → IsAll most_input input.bytes inputs.bytes bytes → IsOutcome (answer_to command bytes) out outs ended → IsReason command input inputs out outs ended
-read_reason command input inputs out outs bytes (Ok done) all outcome = whole_read command input inputs out outs bytes (Ok done) all outcome
-read_reason command input inputs out outs bytes (Err OutFault) all outcome = whole_read command input inputs out outs bytes (Err OutFault) all outcome
-read_reason command input inputs out outs bytes (Err InputLimit) all outcome = whole_read command input inputs out outs bytes (Err InputLimit) all outcome
-read_reason command input inputs out outs bytes (Err (Table why)) all outcome = whole_read command input inputs out outs bytes (Err (Table why)) all outcome
-read_reason command input inputs out outs bytes (Err Memory) all outcome = inl (whole_read command input inputs out outs bytes (Err Memory) all outcome)
-read_reason command input inputs out outs bytes (Err Usage) all outcome = absurd outcome
-read_reason command input inputs out outs bytes (Err InputFault) all outcome = absurd outcome
+unread_reason command input inputs out Memory why = inr (keeps_still out.bytes)
+unread_reason command input inputs out Usage why = absurd why
+unread_reason command input inputs out OutFault why = absurd why
+unread_reason command input inputs out (Input line) why = absurd why
+unread_reason command input inputs out (Table refusal) why = absurd why
+unread_reason command input inputs out (Illegal entry rule) why = absurd why

@@ -7,11 +7,8 @@ use Rattle.lineage_cli.specs.declared.rows.RowsRefusal.{RowsRefusal}
 use Rattle.lineage_cli.specs.declared.rows.RowsRefusal.TheVariants.{Container, OnlyS1, Unread, IdsSpent}
 use Rattle.lineage_cli.specs.declared.rows.RowsRefusal.TheVariants as refusals
 use Rattle.lineage_cli.specs.declared.ending.Ending.{Ending}
-use Rattle.lineage_cli.specs.declared.ending.Ending.TheVariants.{Usage, InputFault, InputLimit, Table, OutFault, Memory}
-
--- the most bytes of the input of rows: 64 MiB
-abbrev pub most_input : ℕ
-most_input = 67108864
+use Rattle.lineage_cli.specs.declared.ending.Ending.TheVariants.{Usage, InputFault, InputLimit, Input, Table, Illegal, OutFault, Memory}
+use Rattle.lineage_model.specs.RuleName.{name_of}
 
 -- 3 for a file that is refused, 7 where a limit is passed, 6 for want of memory
 abbrev pub table_status : RowsRefusal → ℕ
@@ -35,7 +32,9 @@ status_of (Table refusal) = table_status refusal
 status_of InputFault = 5
 status_of OutFault = 5
 status_of Memory = 6
-status_of InputLimit = 7
+status_of (InputLimit found) = 7
+status_of (Input line) = 2
+status_of (Illegal entry rule) = 4
 
 -- a line that ends with a number
 abbrev numbered : List ℕ → ℕ → List ℕ
@@ -63,4 +62,6 @@ line_of (Table refusal) = table_line refusal
 line_of InputFault = codes "rowline: fault InputFault\n"
 line_of OutFault = codes "rowline: fault OutFault\n"
 line_of Memory = codes "rowline: memory\n"
-line_of InputLimit = numbered (codes "rowline: limit Input ") (most_input + 1)
+line_of (InputLimit found) = numbered (codes "rowline: limit Input ") found
+line_of (Input line) = numbered (codes "rowline: input ") line
+line_of (Illegal entry rule) = codes "rowline: refused Illegal " ++ ((decimal entry ++ (codes " " ++ name_of rule)) ++ codes "\n")

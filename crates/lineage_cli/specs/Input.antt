@@ -1,8 +1,15 @@
 -- What reading a source to its end does to the bytes that it has left, where it tells them.
 use Rattle.std.specs.Prelude.{◌≡◌, ℕ, ◌+◌, ◌≤◌, ◌++◌, List, length, Option}
 use Rattle.std.specs.Io.KnownBytes.{Consumes, IsAtEnd}
+use Rattle.lineage_cli.specs.declared.command.Command.{Command}
+use Rattle.lineage_cli.specs.declared.command.Command.TheVariants.{Rows, Audit}
 use Rattle.lineage_cli.specs.declared.input.InputRefusal.{InputRefusal}
 use Rattle.lineage_cli.specs.declared.input.InputRefusal.TheVariants.{Fault, Limit, Memory}
+
+-- the most bytes of the input of a command: 64 MiB for rows, 16 MiB for the others
+abbrev pub most_input : Command → ℕ
+most_input (Rows first sequence) = 67108864
+most_input Audit = 16777216
 
 -- these bytes were taken, no more than most, and none is left now
 pub record IsAll (most : ℕ) (before now : Option (List ℕ)) (bytes : List ℕ) : Type 0 where

@@ -4,5 +4,6 @@ pub mod Input
 pub mod Rows
 pub mod Text
 pub mod Ending
+pub mod Audit
 pub mod Line
 pub mod Run

@@ -6,22 +6,26 @@ use Rattle.lt_port.specs.Faults.{Rose}
 use Rattle.lt_port.specs.declared.failure.PortError.{PortError}
 use Rattle.lt_port.specs.declared.failure.PortError.TheVariants.{Failed}
 use Rattle.lineage_cli.specs.declared.command.Command.{Command}
-use Rattle.lineage_cli.specs.declared.command.Command.TheVariants.{Rows}
+use Rattle.lineage_cli.specs.declared.command.Command.TheVariants.{Rows, Audit}
 use Rattle.lineage_cli.specs.declared.ending.Ending.{Ending}
-use Rattle.lineage_cli.specs.declared.ending.Ending.TheVariants.{Usage, InputFault, InputLimit, Table, OutFault, Memory}
+use Rattle.lineage_cli.specs.declared.ending.Ending.TheVariants.{Usage, InputFault, InputLimit, Input, Table, Illegal, OutFault, Memory}
 use Rattle.lineage_cli.specs.declared.input.InputRefusal.TheVariants as refusals
 use Rattle.lineage_cli.specs.Command.{Asks}
-use Rattle.lineage_cli.specs.Ending.{most_input, status_of, line_of}
-use Rattle.lineage_cli.specs.Input.{StopsBy}
+use Rattle.lineage_cli.specs.Ending.{status_of, line_of}
+use Rattle.lineage_cli.specs.Input.{most_input, StopsBy}
 use Rattle.lineage_cli.specs.Output.{AppendsFront, Puts}
 use Rattle.lineage_cli.specs.Rows.{stored_rows, rows_read}
 use Rattle.lineage_cli.specs.Text.{lines}
+use Rattle.lineage_cli.specs.Audit.{audit_answer}
+
+-- what the command prints for bytes that are not too many, or how it ends
+abbrev pub answer_of : Command → List ℕ → Result (List ℕ) Ending
+answer_of (Rows first sequence) bytes = map_refusal Table (stored_rows first bytes) >>= λ rows. Ok (lines (rows_read first sequence rows))
+answer_of Audit bytes = audit_answer bytes
 
 -- what the command prints for these bytes, or how it ends
 abbrev pub answer_to : Command → List ℕ → Result (List ℕ) Ending
-answer_to (Rows first sequence) bytes =
-    if nat_lt most_input (length bytes) then Err InputLimit
-    else map_refusal Table (stored_rows first bytes) >>= λ rows. Ok (lines (rows_read first sequence rows))
+answer_to command bytes = if nat_lt (most_input command) (length bytes) then Err (InputLimit (most_input command + 1)) else answer_of command bytes
 
 -- a source or a sink at one moment: the bytes that are left or written, where it tells them, and its count of faults
 pub record Stream : Type 0 where
@@ -53,8 +57,10 @@ abbrev pub IsOutcome : Result (List ℕ) Ending → Stream → Stream → Result
 IsOutcome answer out outs (Ok done) = IsPrinted answer out outs
 IsOutcome answer out outs (Err OutFault) = IsCut answer out outs
 IsOutcome answer out outs (Err Memory) = AppendsFront out.bytes outs.bytes (value_or [] answer)
-IsOutcome answer out outs (Err InputLimit) = IsRefused answer InputLimit out outs
+IsOutcome answer out outs (Err (InputLimit found)) = IsRefused answer (InputLimit found) out outs
+IsOutcome answer out outs (Err (Input line)) = IsRefused answer (Input line) out outs
 IsOutcome answer out outs (Err (Table refusal)) = IsRefused answer (Table refusal) out outs
+IsOutcome answer out outs (Err (Illegal entry rule)) = IsRefused answer (Illegal entry rule) out outs
 IsOutcome answer out outs (Err Usage) = ⊥
 IsOutcome answer out outs (Err InputFault) = ⊥
 
@@ -63,36 +69,42 @@ abbrev pub is_memory : Ending → Bool
 is_memory Memory = true
 is_memory Usage = false
 is_memory InputFault = false
-is_memory InputLimit = false
+is_memory (InputLimit found) = false
+is_memory (Input line) = false
+is_memory (Illegal entry rule) = false
 is_memory OutFault = false
 is_memory (Table refusal) = false
 
 -- ---- what it does to the input
 
 -- why the input was not read: it failed, more bytes were left than may be, or memory ran out
-abbrev pub WhyNotRead : Ending → Stream → Stream → Type 0
-WhyNotRead InputFault input inputs = Rose input.faults inputs.faults × StopsBy most_input input.bytes inputs.bytes refusals.Fault
-WhyNotRead InputLimit input inputs = StopsBy most_input input.bytes inputs.bytes refusals.Limit
-WhyNotRead Memory input inputs = Unit {0}
-WhyNotRead Usage input inputs = ⊥
-WhyNotRead OutFault input inputs = ⊥
-WhyNotRead (Table refusal) input inputs = ⊥
+abbrev pub WhyNotRead : ℕ → Ending → Stream → Stream → Type 0
+WhyNotRead most InputFault input inputs = Rose input.faults inputs.faults × StopsBy most input.bytes inputs.bytes refusals.Fault
+WhyNotRead most (InputLimit found) input inputs = (found ≡ most + 1) × StopsBy most input.bytes inputs.bytes refusals.Limit
+WhyNotRead most Memory input inputs = Unit {0}
+WhyNotRead most Usage input inputs = ⊥
+WhyNotRead most OutFault input inputs = ⊥
+WhyNotRead most (Input line) input inputs = ⊥
+WhyNotRead most (Table refusal) input inputs = ⊥
+WhyNotRead most (Illegal entry rule) input inputs = ⊥
 
 -- the bytes that came: all of them, or one above the limit; and what the command made of them
 pub record IsRead (command : Command) (input inputs out outs : Stream) (ended : Result (Unit {0}) Ending) : Type 0 where
   pub bytes : List ℕ
   pub taken : Consumes input.bytes inputs.bytes bytes
-  pub few : length bytes ≤ most_input + 1
-  pub end : length bytes ≤ most_input → IsAtEnd inputs.bytes
+  pub few : length bytes ≤ most_input command + 1
+  pub end : length bytes ≤ most_input command → IsAtEnd inputs.bytes
   pub outcome : IsOutcome (answer_to command bytes) out outs ended
 
 -- why the run of a command ended so: by what was read, unless the input failed or memory ran out before; then nothing is printed
 abbrev pub IsReason : Command → Stream → Stream → Stream → Stream → Result (Unit {0}) Ending → Type 0
 IsReason command input inputs out outs (Ok done) = IsRead command input inputs out outs (Ok done)
 IsReason command input inputs out outs (Err OutFault) = IsRead command input inputs out outs (Err OutFault)
-IsReason command input inputs out outs (Err InputLimit) = IsRead command input inputs out outs (Err InputLimit)
+IsReason command input inputs out outs (Err (InputLimit found)) = IsRead command input inputs out outs (Err (InputLimit found))
+IsReason command input inputs out outs (Err (Input line)) = IsRead command input inputs out outs (Err (Input line))
 IsReason command input inputs out outs (Err (Table refusal)) = IsRead command input inputs out outs (Err (Table refusal))
-IsReason command input inputs out outs (Err InputFault) = WhyNotRead InputFault input inputs × Keeps out.bytes outs.bytes
+IsReason command input inputs out outs (Err (Illegal entry rule)) = IsRead command input inputs out outs (Err (Illegal entry rule))
+IsReason command input inputs out outs (Err InputFault) = WhyNotRead (most_input command) InputFault input inputs × Keeps out.bytes outs.bytes
 IsReason command input inputs out outs (Err Memory) = IsRead command input inputs out outs (Err Memory) ⊎ Keeps out.bytes outs.bytes
 IsReason command input inputs out outs (Err Usage) = ⊥
 

@@ -2,22 +2,13 @@
 use Rattle.std.specs.Prelude.{ℕ, ◌==◌, List, [], ◌∷◌, ◌++◌, Option, Some, None, codes, decimal, if◌then◌else◌}
 use Rattle.std.specs.Fmt.{signed_decimal}
 use Rattle.std.specs.List.{flat_map}
+use Rattle.pieces.specs.Literal.{literal_text}
 use Rattle.lineage_cli.specs.Rows.{Row}
-
--- a quote, a backslash, LF, CR and tab stand behind a backslash; every other byte for itself
-abbrev pub escape : ℕ → List ℕ
-escape byte =
-    if byte == 34 then codes "\\\""
-    else (if byte == 92 then codes "\\\\"
-    else (if byte == 10 then codes "\\n"
-    else (if byte == 13 then codes "\\r"
-    else (if byte == 9 then codes "\\t"
-    else byte ∷ []))))
 
 -- a text between quotes, or null
 abbrev pub cell_text : Option (List ℕ) → List ℕ
 cell_text None = codes "null"
-cell_text (Some text) = codes "\"" ++ flat_map escape text ++ codes "\""
+cell_text (Some text) = literal_text text
 
 -- a piece, and a space behind it
 abbrev pub spaced : List ℕ → List ℕ

@@ -9,9 +9,11 @@ use itoa::Buffer;
 /// A command and its arguments.
 #[derive(Clone, Copy, Debug, PartialEq, Eq)]
 pub enum Command {
-    /// The rows of one data file, whose first row id and data sequence number are given. Both are of
-    /// 63 bits.
+    /// The rows of one data file, whose first row id and data sequence number are given. Both are
+    /// of 63 bits.
     Rows { first: u64, sequence: u64 },
+    /// Whether the history of a report is legal.
+    Audit,
 }
 
 /// The command that the words have the form of, if they have one.
@@ -26,6 +28,7 @@ pub fn command_of(words: &[Text]) -> Option<Command>
             let sequence = natural(sequence.as_str())?;
             Some(Command::Rows { first, sequence })
         }
+        [name] if name.as_str() == "audit" => Some(Command::Audit),
         _ => None,
     }
 }

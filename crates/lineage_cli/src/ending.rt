@@ -1,7 +1,8 @@
 //! How a run ends that doesn't answer: its status, and its one line.
 
-ghost use Rattle.std.specs.Prelude.{◌≡◌, ◌++◌, codes, IsErrOf};
+ghost use Rattle.std.specs.Prelude.{◌≡◌, ◌++◌, codes, decimal, IsErrOf};
 ghost use Rattle.std.specs.Fmt.{signed_decimal};
+ghost use Rattle.lineage_model.specs.RuleName.{name_of};
 ghost use Rattle.lt_port.specs.Faults.{HasCause};
 ghost use Rattle.lineage_cli.specs.Ending.{status_of as status, line_of, table_status, table_line};
 ghost use Rattle.lineage_cli.specs.Line.{detail_text};
@@ -13,7 +14,7 @@ use crate::rows::RowsRefusal;
 use avro_container::ContainerRefusal;
 use avro_wire::Bytes;
 use itoa::Buffer;
-use lt_base::ROWS_INPUT;
+use lineage_model::Rule;
 use lt_port::{PortError, Sink};
 use std::alloc::Global;
 
@@ -24,10 +25,15 @@ pub enum Ending {
     Usage,
     /// The input failed.
     InputFault,
-    /// The input is larger than it may be.
-    InputLimit,
+    /// The input is larger than it may be: reading stopped at `found` bytes.
+    InputLimit { found: u64 },
+    /// The line of the input, counted from 1, is wrong, and none before it.
+    Input { line: u64 },
     /// The file is refused.
     Table(RowsRefusal),
+    /// The entry of the history, counted from 1, breaks this rule, and none before it. Entry 0 is
+    /// the state that the history begins with.
+    Illegal { entry: u64, rule: Rule },
     /// The output failed.
     OutFault,
     /// There was no memory.
@@ -40,10 +46,12 @@ pub fn status_of(ending: &Ending) -> u8
 {
     match ending {
         Ending::Usage => 1,
+        Ending::Input { .. } => 2,
         Ending::Table(refusal) => status_of_table(refusal),
+        Ending::Illegal { .. } => 4,
         Ending::InputFault | Ending::OutFault => 5,
         Ending::Memory => 6,
-        Ending::InputLimit => 7,
+        Ending::InputLimit { .. } => 7,
     }
 }
 
@@ -89,6 +97,7 @@ enum Detail<'a> {
     Number(u64),
     Numbers(i64, i64),
     Hex(&'a Bytes),
+    Broken(u64, Rule),
 }
 
 /// The line's front, and what follows it.
@@ -101,7 +110,11 @@ fn line_parts(ending: &Ending) -> (&'static [u8], Detail<'_>)
         Ending::InputFault => (b"rowline: fault InputFault", Detail::Nothing),
         Ending::OutFault => (b"rowline: fault OutFault", Detail::Nothing),
         Ending::Memory => (b"rowline: memory", Detail::Nothing),
-        Ending::InputLimit => (b"rowline: limit Input ", Detail::Number(ROWS_INPUT + 1)),
+        Ending::InputLimit { found } => (b"rowline: limit Input ", Detail::Number(*found)),
+        Ending::Input { line } => (b"rowline: input ", Detail::Number(*line)),
+        Ending::Illegal { entry, rule } => {
+            (b"rowline: refused Illegal ", Detail::Broken(*entry, *rule))
+        }
     }
 }
 
@@ -148,11 +161,25 @@ fn write_detail<E: Sink>(alloc: Global, err: &mut E, detail: Detail<'_>) -> Resu
         Detail::Nothing => Ok(()),
         Detail::Number(number) => write_all(err, digits.format(number).as_bytes()),
         Detail::Numbers(first, second) => write_numbers(err, first, second),
+        Detail::Broken(entry, rule) => write_broken(err, entry, rule),
         Detail::Hex(bytes) => match hex::encode(alloc, bytes.as_slice()) {
             Ok(text) => write_all(err, text.as_bytes()),
             Err(_) => Err(PortError::Memory),
         },
     }
+}
+
+/// Writes the number of an entry, a space and the name of a rule.
+fn write_broken<E: Sink>(err: &mut E, entry: u64, rule: Rule) -> Result<(), PortError>
+    ensures text { Puts (E.written err.old) (E.written err.new) result
+        (decimal entry ++ (codes " " ++ name_of rule)) }
+    ensures cause { HasCause (E.faults err.old) (E.faults err.new)
+        (IsErrOf result PortError.Failed) }
+{
+    let mut digits = Buffer::new();
+    write_all(err, digits.format(entry).as_bytes())?;
+    write_all(err, b" ")?;
+    write_all(err, name_of_rule(rule))
 }
 
 /// Writes two numbers with a space between.
@@ -185,4 +212,21 @@ fn write_second<E: Sink>(err: &mut E, number: i64) -> Result<(), PortError>
 {
     write_all(err, b" ")?;
     write_number(err, number)
+}
+
+/// The name of a rule.
+fn name_of_rule(rule: Rule) -> &'static [u8]
+    ensures { result.now ≡ name_of rule }
+{
+    match rule {
+        Rule::Start => b"Start",
+        Rule::Version => b"Version",
+        Rule::Unnamed => b"Unnamed",
+        Rule::Seq => b"Seq",
+        Rule::Next => b"Next",
+        Rule::Named => b"Named",
+        Rule::Given => b"Given",
+        Rule::Fresh => b"Fresh",
+        Rule::Asked => b"Asked",
+    }
 }

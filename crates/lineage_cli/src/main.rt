@@ -1,4 +1,5 @@
-//! The program: `rowline rows FIRST SEQ` prints the rows of the data file on standard input.
+//! The program: `rowline rows FIRST SEQ` prints the rows of the data file on standard input, and
+//! `rowline audit` says whether the history of the report there is legal.
 //!
 //! | Module | What it has |
 //! |---|---|
@@ -6,11 +7,15 @@
 //! | `run` | a run of the program over any source and sinks |
 //! | `input`, `output` | reading a source to its end, writing text to a sink |
 //! | `rows` | the rows of a data file of the accepted schema |
+//! | `audit` | answering whether the history of a report is legal |
 //! | `printing` | printing rows, one line each |
 //! | `ending` | the status and the line of a run that doesn't answer |
 //! | `standard` | readers and writers as sources and sinks |
 #![tactic(auto)]
 
+mod audit;
+#[cfg(test)]
+mod audit_tests;
 mod command;
 mod ending;
 mod input;

@@ -8,7 +8,8 @@ ghost use Rattle.words.specs.Reading.{value_or};
 ghost use Rattle.lt_port.specs.Faults.{HasCause};
 ghost use Rattle.lineage_cli.specs.Output.{Puts, Shows};
 ghost use Rattle.lineage_cli.specs.Rows.{stored_of, rows_of, counted_rows, rows_read};
-ghost use Rattle.lineage_cli.specs.Text.{escape as escape_of, cell_text, spaced, row_line, lines};
+ghost use Rattle.pieces.specs.Literal.{escape as escape_of};
+ghost use Rattle.lineage_cli.specs.Text.{cell_text, spaced, row_line, lines};
 
 use crate::output::{flush, put};
 use crate::rows::{Found, take_row};

@@ -3,12 +3,12 @@
 ghost use Rattle.std.specs.Prelude.{◌≡◌, ◌+◌, ◌<◌, ◌≤◌, ◌^◌, [], Ok, true, length, IfOk, IfErr, MatchOption, is_ok, IsErrOf};
 ghost use Rattle.words.specs.Reading.{Gives, map_refusal, value_or};
 ghost use Rattle.lt_port.specs.Faults.{Rose};
-ghost use Rattle.lineage_cli.specs.Ending.{most_input};
-ghost use Rattle.lineage_cli.specs.Input.{IsAll};
+ghost use Rattle.lineage_cli.specs.Input.{most_input, IsAll};
 ghost use Rattle.lineage_cli.specs.Rows.{rows_of, stored_rows, rows_read};
 ghost use Rattle.lineage_cli.specs.Text.{lines};
 ghost use Rattle.lineage_cli.specs.Run.{answer_to, Stream, IsOutcome, IsReason, IsServed, IsRun, IsTold, is_memory, WhyNotRead};
 
+use crate::audit::answer_audit;
 use crate::command::{Command, command_of};
 use crate::ending::{Ending, status_of, tell};
 use crate::input::{InputRefusal, read_all};
@@ -16,7 +16,7 @@ use crate::printing::print_rows;
 use crate::rows::{RowsRefusal, open_rows};
 use avro_container::Walk;
 use avro_wire::Text;
-use lt_base::ROWS_INPUT;
+use lt_base::{INPUT, ROWS_INPUT};
 use lt_port::{PortError, Sink, Source};
 use std::alloc::Global;
 
@@ -62,6 +62,7 @@ fn serve<S: Source, W: Sink>(
     match command_of(words) {
         None => Err(Ending::Usage),
         Some(Command::Rows { first, sequence }) => run_rows(alloc, first, sequence, input, out),
+        Some(Command::Audit) => run_audit(alloc, input, out),
     }
 }
 
@@ -80,22 +81,35 @@ fn run_rows<S: Source, W: Sink>(
         (record { bytes = W.written out.old; faults = W.faults out.old })
         (record { bytes = W.written out.new; faults = W.faults out.new }) result }
 {
-    let bytes = read_input(alloc, input)?;
+    let bytes = read_input(alloc, input, ROWS_INPUT)?;
     answer_rows(alloc, first, sequence, &bytes, out)
 }
 
-/// The bytes of the input, all of them.
-fn read_input<S: Source>(alloc: Global, input: &mut S) -> Result<Vec<u8>, Ending>
+/// Runs `audit`.
+fn run_audit<S: Source, W: Sink>(alloc: Global, input: &mut S, out: &mut W) -> Result<(), Ending>
+    ensures { IsReason Command.Audit
+        (record { bytes = S.left input.old; faults = S.faults input.old })
+        (record { bytes = S.left input.new; faults = S.faults input.new })
+        (record { bytes = W.written out.old; faults = W.faults out.old })
+        (record { bytes = W.written out.new; faults = W.faults out.new }) result }
+{
+    let bytes = read_input(alloc, input, INPUT)?;
+    answer_audit(alloc, &bytes, out)
+}
+
+/// The bytes of the input, all of them, if they are no more than `most`.
+fn read_input<S: Source>(alloc: Global, input: &mut S, most: u64) -> Result<Vec<u8>, Ending>
+    requires { most < 2 ^ 62 }
     ensures all { IfOk result (λ bytes.
-        IsAll most_input (S.left input.old) (S.left input.new) bytes.items) }
-    ensures missed { IfErr result (λ ending. WhyNotRead ending
+        IsAll most (S.left input.old) (S.left input.new) bytes.items) }
+    ensures missed { IfErr result (λ ending. WhyNotRead most ending
         (record { bytes = S.left input.old; faults = S.faults input.old })
         (record { bytes = S.left input.new; faults = S.faults input.new })) }
 {
-    match read_all(alloc, input, ROWS_INPUT as usize) {
+    match read_all(alloc, input, most as usize) {
         Ok(bytes) => Ok(bytes),
         Err(InputRefusal::Fault) => Err(Ending::InputFault),
-        Err(InputRefusal::Limit) => Err(Ending::InputLimit),
+        Err(InputRefusal::Limit) => Err(Ending::InputLimit { found: most + 1 }),
         Err(InputRefusal::Memory) => Err(Ending::Memory),
     }
 }
@@ -109,7 +123,7 @@ fn answer_rows<W: Sink>(
     out: &mut W,
 ) -> Result<(), Ending>
     requires id { first < 2 ^ 63 }
-    requires fits { length bytes.now ≤ most_input }
+    requires fits { length bytes.now ≤ most_input (Command.Rows first sequence) }
     ensures { IsOutcome (answer_to (Command.Rows first sequence) bytes.now)
         (record { bytes = W.written out.old; faults = W.faults out.old })
         (record { bytes = W.written out.new; faults = W.faults out.new }) result }

@@ -23,29 +23,34 @@ const MARKER: &[u8] = &[0; 16];
 
 // How a run ended.
 #[derive(Drop)]
-struct Ran {
-    status: u8,
-    out: Vec<u8>,
-    err: Vec<u8>,
+pub(crate) struct Ran {
+    pub(crate) status: u8,
+    pub(crate) out: Vec<u8>,
+    pub(crate) err: Vec<u8>,
 }
 
 // Which calls of the source and the sinks fail, and how many bytes a call moves at most.
 #[derive(Clone, Copy)]
-struct Outside {
-    piece: usize,
-    input_fails: &'static [u64],
-    out_fails: &'static [u64],
-    err_fails: &'static [u64],
+pub(crate) struct Outside {
+    pub(crate) piece: usize,
+    pub(crate) input_fails: &'static [u64],
+    pub(crate) out_fails: &'static [u64],
+    pub(crate) err_fails: &'static [u64],
 }
 
-const AMPLE: Outside = Outside {
+pub(crate) const AMPLE: Outside = Outside {
     piece: 100_000,
     input_fails: &[],
     out_fails: &[],
     err_fails: &[],
 };
 
-fn run(alloc: Global, words: &[&str], input: &[u8], outside: &Outside) -> Result<Ran, AllocError> {
+pub(crate) fn run(
+    alloc: Global,
+    words: &[&str],
+    input: &[u8],
+    outside: &Outside,
+) -> Result<Ran, AllocError> {
     let mut texts = Vec::new(alloc);
     for word in words {
         texts.push(Text::from_str(alloc, word)?)?;
@@ -119,7 +124,7 @@ const WORDS: &[&str] = &["rows", "1000", "7"];
 const THREE_LINES: &str = "1000 7 10 \"a\"\n1001 7 11 null\n1002 7 12 \"b\"\n";
 
 // Whether the run ends so, with ample memory.
-fn ends(
+pub(crate) fn ends(
     rt: &impl Abort,
     alloc: Global,
     words: &[&str],

@@ -2,7 +2,7 @@ use Rattle.std.proofs.Common.{◌∷◌, [], ◌++◌}
 use Rattle.std.specs.List.{flat_map}
 use Rattle.std.proofs.lemmas.Result.{err_from_is_err_and}
 use Rattle.lineage_cli.specs.Output.{shown}
-use Rattle.lineage_cli.specs.Text.{escape}
+use Rattle.pieces.specs.Literal.{escape}
 use Rattle.lineage_cli.proofs.OutputLemmas.{begins_then, begins_more}
 use Rattle.lineage_cli.proofs.printing.put_literal.Goals as goal
 

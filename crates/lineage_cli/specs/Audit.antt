@@ -1,0 +1,36 @@
+-- What an audit prints: that the history of a report is legal, with its size and what it leads to.
+use Rattle.std.specs.Prelude.{ℕ, ◌+◌, List, ◌++◌, length, Result, Ok, codes, decimal}
+use Rattle.words.specs.Reading.{◌>>=◌, map_refusal}
+use Rattle.lt_base.specs.declared.state.State.{State}
+use Rattle.lineage_model.specs.History.{Fault, audited}
+use Rattle.pieces.specs.Number.{optional_text}
+use Rattle.report.specs.declared.refusal.ReportRefusal.{ReportRefusal}
+use Rattle.report.specs.declared.refusal.ReportRefusal.TheVariants as reports
+use Rattle.report.specs.Report.{report_of}
+use Rattle.lineage_cli.specs.declared.ending.Ending.{Ending}
+use Rattle.lineage_cli.specs.declared.ending.Ending.TheVariants.{Input, Illegal, Memory}
+use Rattle.lineage_cli.specs.Text.{spaced}
+
+-- how many rows there are, with and without ids
+abbrev pub row_count : State → ℕ
+row_count state = length state.rows + length state.unnamed
+
+-- the line of a legal history: how many entries there are, how many rows then, and the next id
+abbrev pub legal_line : ℕ → State → List ℕ
+legal_line entries state = spaced (codes "legal") ++ (spaced (decimal entries) ++ (spaced (decimal (row_count state)) ++ (optional_text state.next ++ codes "\n")))
+
+-- how the run ends for bytes that are no report
+abbrev pub of_report : ReportRefusal → Ending
+of_report (reports.Line line) = Input line
+of_report reports.Memory = Memory
+
+-- how it ends for a history that is not legal
+abbrev pub illegal : Fault → Ending
+illegal fault = Illegal fault.entry fault.rule
+
+-- the line, or the first line of the input that is wrong, or the first entry that is not legal
+unfoldable pub audit_answer : List ℕ → Result (List ℕ) Ending
+audit_answer bytes = do
+  report ← map_refusal of_report (report_of bytes)
+  state ← map_refusal illegal (audited report.start report.entries)
+  Ok (legal_line (length report.entries) state)
