@@ -25,9 +25,9 @@ pub struct Entry {
     pub request: Request,
     /// The commit's sequence number. `None`: it made no snapshot.
     pub seq: Option<i64>,
-    /// The ids of the rows that the request is about.
+    /// The ids that the commit gave to the rows that had none, in their order.
     pub named: Runs,
-    /// The ids that the commit gave to rows.
+    /// The ids of the appended rows, in their order.
     pub given: Runs,
     /// The next id that the table gives after the commit. `None`: the table gives no ids.
     pub next: Option<i64>,
