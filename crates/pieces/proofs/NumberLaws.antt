@@ -52,8 +52,8 @@ digits_again (byte ∷ ds) most value number rest place all is le none =
     let below = grows (value * 10 + (byte - 48)) ds in
     let within : nat_lt most (value * 10 + (byte - 48)) ≡ false = le-ltb _ _ (omega arith) in
     let size : place + 1 + length ds ≡ place + suc (length ds) = omega arith in
-    ap (λ (b : Bool). cond b (cond (nat_lt most (value * 10 + (byte - 48))) (Over place (place + 1 + digits (ds ++ rest))) (digits_from most (value * 10 + (byte - 48)) (ds ++ rest) (place + 1))) (Within value place)) parts.0
-    ∙ (ap (λ (b : Bool). cond b (Over place (place + 1 + digits (ds ++ rest))) (digits_from most (value * 10 + (byte - 48)) (ds ++ rest) (place + 1))) within
+    ap (λ (b : Bool). cond b (cond (nat_lt most (value * 10 + (byte - 48))) (Over value place (place + 1 + digits (ds ++ rest))) (digits_from most (value * 10 + (byte - 48)) (ds ++ rest) (place + 1))) (Within value place)) parts.0
+    ∙ (ap (λ (b : Bool). cond b (Over value place (place + 1 + digits (ds ++ rest))) (digits_from most (value * 10 + (byte - 48)) (ds ++ rest) (place + 1))) within
     ∙ (digits_again ds most (value * 10 + (byte - 48)) number rest (place + 1) parts.1 is le none ∙ ap (Within number) size))
 
 -- these are the library's words for digits and their number

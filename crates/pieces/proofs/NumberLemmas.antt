@@ -8,7 +8,7 @@ use Rattle.pieces.specs.declared.refusal.PieceRefusal.{PieceRefusal}
 use Rattle.pieces.specs.declared.number.Digits.{Digits}
 use Rattle.pieces.specs.declared.number.Digits.TheVariants.{Within, Over}
 use Rattle.pieces.specs.Word.{is_this}
-use Rattle.pieces.specs.Number.{is_digit, digits, digits_from, begins, positive_at, natural_at, negative, Signed, signed_as, signed_at, no_more, unsigned_at, count_at, of_64_bits, long_at, or_none, any_number_at}
+use Rattle.pieces.specs.Number.{is_digit, digits, digits_from, begins, positive_at, natural_at, negative, value_of, Signed, after_of, signed_as, signed_at, no_more, unsigned_at, count_at, of_64_bits, long_at, or_none, any_number_at}
 use Rattle.pieces.proofs.WordLemmas.{is_this_within}
 
 -- ---- how many digits there are
@@ -42,16 +42,16 @@ pub ruleset digits_steps = (digits_on, digits_stop, digits_end)
 abbrev pub with_digit : ℕ → ℕ → ℕ → Option ℕ
 with_digit most value byte = cond (nat_lt most (value * 10 + (byte - 48))) None (Some (value * 10 + (byte - 48)))
 
--- how a digit goes on, by the value with it
-abbrev goes_on : ℕ → Option ℕ → List ℕ → ℕ → Digits
-goes_on most None rest at = Over at (at + 1 + digits rest)
-goes_on most (Some next) rest at = digits_from most next rest (at + 1)
+-- how a digit goes on behind a value, by the value with it
+abbrev goes_on : ℕ → ℕ → Option ℕ → List ℕ → ℕ → Digits
+goes_on most value None rest at = Over value at (at + 1 + digits rest)
+goes_on most value (Some next) rest at = digits_from most next rest (at + 1)
 
 -- of a digit
-step_of : (most value byte : ℕ) (rest : List ℕ) (at : ℕ) → is_digit byte ≡ true → digits_from most value (byte ∷ rest) at ≡ goes_on most (with_digit most value byte) rest at
+step_of : (most value byte : ℕ) (rest : List ℕ) (at : ℕ) → is_digit byte ≡ true → digits_from most value (byte ∷ rest) at ≡ goes_on most value (with_digit most value byte) rest at
 unfolding digits_from
 step_of most value byte rest at is =
-    ap (λ (b : Bool). cond b (cond (nat_lt most (value * 10 + (byte - 48))) (Over at (at + 1 + digits rest)) (digits_from most (value * 10 + (byte - 48)) rest (at + 1))) (Within value at)) is
+    ap (λ (b : Bool). cond b (cond (nat_lt most (value * 10 + (byte - 48))) (Over value at (at + 1 + digits rest)) (digits_from most (value * 10 + (byte - 48)) rest (at + 1))) (Within value at)) is
     ∙ elim (cases_Bool (nat_lt most (value * 10 + (byte - 48)))) [
       | inl over ↦ rw over refl
       | inr within ↦ rw within refl
@@ -62,21 +62,21 @@ pub digits_from_on : (input : List ℕ) (most value next at : ℕ) (total : Digi
 digits_from_on input most value next at total inside is fits so_far =
     sym (at_drop_more (λ (rest : List ℕ). digits_from most value rest at) input at 0 inside
     ∙ step_of most value (get_or input at 0) (drop (at + 1) input) at is
-    ∙ ap (λ (o : Option ℕ). goes_on most o (drop (at + 1) input) at) fits) ∙ so_far
+    ∙ ap (λ (o : Option ℕ). goes_on most value o (drop (at + 1) input) at) fits) ∙ so_far
 
 -- the digit that passes the most
-pub digits_from_over : (input : List ℕ) (most value at : ℕ) (total : Digits) → at < length input → is_digit (get_or input at 0) ≡ true → with_digit most value (get_or input at 0) ≡ None → digits_from most value (drop at input) at ≡ total → total ≡ Over at (at + 1 + digits (drop (at + 1) input))
+pub digits_from_over : (input : List ℕ) (most value at : ℕ) (total : Digits) → at < length input → is_digit (get_or input at 0) ≡ true → with_digit most value (get_or input at 0) ≡ None → digits_from most value (drop at input) at ≡ total → total ≡ Over value at (at + 1 + digits (drop (at + 1) input))
 digits_from_over input most value at total inside is over so_far =
     sym so_far ∙ (at_drop_more (λ (rest : List ℕ). digits_from most value rest at) input at 0 inside
     ∙ step_of most value (get_or input at 0) (drop (at + 1) input) at is
-    ∙ ap (λ (o : Option ℕ). goes_on most o (drop (at + 1) input) at) over)
+    ∙ ap (λ (o : Option ℕ). goes_on most value o (drop (at + 1) input) at) over)
 
 -- a byte that is no digit
 pub digits_from_stop : (input : List ℕ) (most value at : ℕ) (total : Digits) → at < length input → is_digit (get_or input at 0) ≡ false → digits_from most value (drop at input) at ≡ total → total ≡ Within value at
 unfolding digits_from
 digits_from_stop input most value at total inside is_not so_far =
     let step : digits_from most value (drop at input) at ≡ digits_from most value (get_or input at 0 ∷ drop (at + 1) input) at = at_drop_more (λ (rest : List ℕ). digits_from most value rest at) input at 0 inside in
-    sym so_far ∙ (step ∙ ap (λ (b : Bool). cond b (cond (nat_lt most (value * 10 + (get_or input at 0 - 48))) (Over at (at + 1 + digits (drop (at + 1) input))) (digits_from most (value * 10 + (get_or input at 0 - 48)) (drop (at + 1) input) (at + 1))) (Within value at)) is_not)
+    sym so_far ∙ (step ∙ ap (λ (b : Bool). cond b (cond (nat_lt most (value * 10 + (get_or input at 0 - 48))) (Over value at (at + 1 + digits (drop (at + 1) input))) (digits_from most (value * 10 + (get_or input at 0 - 48)) (drop (at + 1) input) (at + 1))) (Within value at)) is_not)
 
 -- the end
 pub digits_from_end : (input : List ℕ) (most value at : ℕ) (total : Digits) → length input ≤ at → digits_from most value (drop at input) at ≡ total → total ≡ Within value at
@@ -93,12 +93,12 @@ pub ruleset digits_from_steps = (digits_from_on, digits_from_over, digits_from_s
 -- digits that are read stay below the most and between two places
 abbrev pub Ends : ℕ → ℕ → ℕ → Digits → Type 0
 Ends most from to (Within value after) = (value ≤ most) × (from ≤ after) × (after ≤ to)
-Ends most from to (Over place after) = (from ≤ after) × (after ≤ to)
+Ends most from to (Over value place after) = (value ≤ most) × (from ≤ after) × (after ≤ to)
 
 -- wider places hold, too
 ends_wider : (most from to low high : ℕ) (read : Digits) → low ≤ from → to ≤ high → Ends most from to read → Ends most low high read
 ends_wider most from to low high (Within value after) lower higher ends = (ends.0, omega arith, omega arith)
-ends_wider most from to low high (Over place after) lower higher ends = (omega arith, omega arith)
+ends_wider most from to low high (Over value place after) lower higher ends = (ends.0, omega arith, omega arith)
 
 -- no more digits than bytes
 pub digits_le : (bytes : List ℕ) → digits bytes ≤ length bytes
@@ -118,7 +118,7 @@ digits_end_inside most value [] at low = (low, omega arith, omega arith)
 digits_end_inside most value (byte ∷ rest) at low =
     elim (cases_Bool (is_digit byte)) [
       | inl is ↦ elim (cases_Bool (nat_lt most (value * 10 + (byte - 48)))) [
-        | inl over ↦ let few = digits_le rest in rw (is, over) (omega arith, omega arith)
+        | inl over ↦ let few = digits_le rest in rw (is, over) (low, omega arith, omega arith)
         | inr within ↦
             let more = digits_end_inside most (value * 10 + (byte - 48)) rest (at + 1) (ltb-false _ _ within) in
             rw (is, within) (ends_wider most (at + 1) (at + 1 + length rest) at (at + suc (length rest)) _ (omega arith) (omega arith) more)
@@ -170,22 +170,26 @@ map_within (Err e) view P h = tt
 -- so does a number that is no more than the most
 at_no_more : (most from to : ℕ) (read : Digits) → Ends most from to read → IfOk (no_more read) (λ read. (from ≤ read.1) × (read.1 ≤ to))
 at_no_more most from to (Within value after) ends = (ends.1, ends.2)
-at_no_more most from to (Over place after) ends = tt
+at_no_more most from to (Over value place after) ends = tt
 
 -- which is no more than it
 at_most : (most from to : ℕ) (read : Digits) → Ends most from to read → IfOk (no_more read) (λ read. read.0 ≤ most)
 at_most most from to (Within value after) ends = ends.0
-at_most most from to (Over place after) ends = tt
+at_most most from to (Over value place after) ends = tt
+
+-- and so is what stands before the digit that passes it
+pub value_within : (most from to : ℕ) (read : Digits) → Ends most from to read → value_of read ≤ most
+value_within most from to (Within value after) ends = ends.0
+value_within most from to (Over value place after) ends = ends.0
 
 -- the same of a number with its sign
 abbrev SignedEnds : ℕ → ℕ → Signed → Type 0
-SignedEnds from to (Ok read) = (from ≤ read.1) × (read.1 ≤ to)
-SignedEnds from to (Err (place, after)) = (from ≤ after) × (after ≤ to)
+SignedEnds from to read = (from ≤ after_of read) × (after_of read ≤ to)
 
 -- with a sign they end there, too
 at_sign : (most from to low : ℕ) (sign : ℕ → ℤ) (read : Digits) → low ≤ from → Ends most from to read → SignedEnds low to (signed_as sign read)
 at_sign most from to low sign (Within value after) le ends = (omega arith, ends.2)
-at_sign most from to low sign (Over place after) le ends = (omega arith, ends.1)
+at_sign most from to low sign (Over value place after) le ends = (omega arith, ends.2)
 
 -- a number with its sign ends inside the text
 signed_ends : (input : List ℕ) (place : ℕ) → IfOk (signed_at input place) (SignedEnds place (length input))
@@ -213,12 +217,16 @@ count_within input place r e =
     let h = bind_within (positive_at (2 ^ 63 - 1) input place) no_more (λ read. (place ≤ read.1) × (read.1 ≤ length input)) (λ read e. at_no_more (2 ^ 63 - 1) place (length input) read (positive_ends (2 ^ 63 - 1) input place read e)) in
     rw is at h))
 
+-- a number of any size ends inside the text, with its sign
+pub signed_within : (input : List ℕ) (place : ℕ) (r : Result Signed PieceRefusal) → r ≡ signed_at input place → IfOk r (λ read. (place ≤ after_of read) × (after_of read ≤ length input))
+signed_within input place r e = at_answer (SignedEnds place (length input)) r (signed_at input place) e (signed_ends input place)
+
 -- a number of 64 bits ends inside the text
 pub long_within : (input : List ℕ) (place : ℕ) (r : Result (ℤ × ℕ) PieceRefusal) → r ≡ long_at input place → IfOk r (λ read. (place ≤ read.1) × (read.1 ≤ length input))
 long_within input place r e = at_answer (λ read. (place ≤ read.1) × (read.1 ≤ length input)) r (long_at input place) e (go (signed_at input place) (signed_ends input place)) where
   go : (r : Result Signed PieceRefusal) → IfOk r (SignedEnds place (length input)) → IfOk (r >>= of_64_bits) (λ read. (place ≤ read.1) × (read.1 ≤ length input))
   go (Ok (Ok read)) ends = ends
-  go (Ok (Err (place, after))) ends = tt
+  go (Ok (Err passed)) ends = tt
   go (Err refusal) ends = tt
 
 -- a number of any size ends inside the text
@@ -226,7 +234,7 @@ pub any_number_within : (input : List ℕ) (place : ℕ) (r : Result (Option ℤ
 any_number_within input place r e = at_answer (λ read. (place ≤ read.1) × (read.1 ≤ length input)) r (any_number_at input place) e (go (signed_at input place) (signed_ends input place)) where
   go : (r : Result Signed PieceRefusal) → IfOk r (SignedEnds place (length input)) → IfOk (map_value or_none r) (λ read. (place ≤ read.1) × (read.1 ≤ length input))
   go (Ok (Ok read)) ends = ends
-  go (Ok (Err (place, after))) ends = ends
+  go (Ok (Err passed)) ends = ends
   go (Err refusal) ends = tt
 
 -- the number that is read is no more than the most

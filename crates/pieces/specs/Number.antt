@@ -6,6 +6,7 @@ use Rattle.pieces.specs.declared.refusal.PieceRefusal.{PieceRefusal}
 use Rattle.pieces.specs.declared.refusal.PieceRefusal.TheVariants.{Syntax}
 use Rattle.pieces.specs.declared.number.Digits.{Digits}
 use Rattle.pieces.specs.declared.number.Digits.TheVariants.{Within, Over}
+use Rattle.pieces.specs.declared.number.Passed.{Passed}
 use Rattle.pieces.specs.Word.{is_this}
 
 -- the byte is a digit
@@ -17,12 +18,12 @@ unfoldable pub digits : List ℕ → ℕ
 digits [] = 0
 digits (byte ∷ rest) = if is_digit byte then suc (digits rest) else 0
 
--- the number that the digits go on to from a value, with the place after them; or the place of the digit that brings it above the most, and the place after the last digit
+-- the number that the digits go on to from a value, with the place after them; or the number before the digit that brings it above the most, the place of that digit, and the place after the last digit
 unfoldable pub digits_from : ℕ → ℕ → List ℕ → ℕ → Digits
 digits_from most value [] place = Within value place
 digits_from most value (byte ∷ rest) place =
     if is_digit byte
-    then (if nat_lt most (value * 10 + (byte - 48)) then Over place (place + 1 + digits rest)
+    then (if nat_lt most (value * 10 + (byte - 48)) then Over value place (place + 1 + digits rest)
     else digits_from most (value * 10 + (byte - 48)) rest (place + 1))
     else Within value place
 
@@ -39,13 +40,24 @@ positive_at most input place = if begins (slice_get input place) then Ok (digits
 abbrev pub natural_at : ℕ → List ℕ → ℕ → Result Digits PieceRefusal
 natural_at most input place = if is_this 48 (slice_get input place) then Ok (Within 0 (place + 1)) else positive_at most input place
 
--- a number with its sign, where it is of 64 bits, and the place after it; else the place of the digit that passes them, too
-abbrev pub Signed : Type 0
-Signed = Result (ℤ × ℕ) (ℕ × ℕ)
+-- what digits make, or those before the one that passes the most
+abbrev pub value_of : Digits → ℕ
+value_of (Within value after) = value
+value_of (Over value place after) = value
 
+-- a number of 64 bits with its sign, and the place after it; or one past 64 bits
+abbrev pub Signed : Type 0
+Signed = Result (ℤ × ℕ) Passed
+
+-- the place after a number of any size
+abbrev pub after_of : Signed → ℕ
+after_of (Ok read) = read.1
+after_of (Err passed) = passed.after
+
+-- what digits make, with its sign
 abbrev pub signed_as : (ℕ → ℤ) → Digits → Signed
 signed_as sign (Within value after) = Ok (sign value, after)
-signed_as sign (Over place after) = Err (place, after)
+signed_as sign (Over value place after) = Err (record { front = sign value; place = place; after = after })
 
 -- the number so far below 0
 abbrev pub negative : ℕ → ℤ
@@ -64,7 +76,7 @@ signed_at input place =
 -- digits that are no more than the most: else no number goes on with the digit that passes it
 abbrev pub no_more : Digits → Result (ℕ × ℕ) PieceRefusal
 no_more (Within value after) = Ok (value, after)
-no_more (Over place after) = Err (Syntax place)
+no_more (Over value place after) = Err (Syntax place)
 
 -- a number of 64 bits without sign
 abbrev pub unsigned_at : List ℕ → ℕ → Result (ℕ × ℕ) PieceRefusal
@@ -74,9 +86,10 @@ unsigned_at input place = natural_at (2 ^ 64 - 1) input place >>= no_more
 abbrev pub count_at : List ℕ → ℕ → Result (ℤ × ℕ) PieceRefusal
 count_at input place = map_value (λ read. (pos read.0, read.1)) (positive_at (2 ^ 63 - 1) input place >>= no_more)
 
+-- a number of 64 bits; past them it is wrong at the digit that passes them
 abbrev pub of_64_bits : Signed → Result (ℤ × ℕ) PieceRefusal
 of_64_bits (Ok read) = Ok read
-of_64_bits (Err (place, after)) = Err (Syntax place)
+of_64_bits (Err passed) = Err (Syntax passed.place)
 
 -- a number of 64 bits with a sign
 abbrev pub long_at : List ℕ → ℕ → Result (ℤ × ℕ) PieceRefusal
@@ -84,7 +97,7 @@ long_at input place = signed_at input place >>= of_64_bits
 
 abbrev pub or_none : Signed → Option ℤ × ℕ
 or_none (Ok read) = (Some read.0, read.1)
-or_none (Err (place, after)) = (None, after)
+or_none (Err passed) = (None, passed.after)
 
 -- a number of any size; None where it is not of 64 bits
 abbrev pub any_number_at : List ℕ → ℕ → Result (Option ℤ × ℕ) PieceRefusal

@@ -23,8 +23,8 @@ mod word;
 pub use hex_literal::{put_hex, take_hex};
 pub use literal::{put_literal, take_literal};
 pub use number::{
-    is_absent, put_long, put_optional_long, put_unsigned, take_any_number, take_count, take_long,
-    take_optional_long, take_unsigned,
+    Passed, Signed, is_absent, put_long, put_optional_long, put_unsigned, take_any_number,
+    take_count, take_long, take_optional_long, take_signed, take_unsigned,
 };
 pub use refusal::PieceRefusal;
 pub use word::{

@@ -3,7 +3,7 @@
 ghost use Rattle.std.specs.Prelude.{◌≡◌, true, pos, ℕ, ◌+◌, ◌-◌, ◌*◌, ◌^◌, ◌≤◌, List, ◌++◌, length, drop, slice_get, Some, None, nat_lt, if◌then◌else◌, IfOk, OnOk};
 ghost use Rattle.std.specs.Fmt.{decimal, signed_decimal};
 ghost use Rattle.std.specs.String.{string_bytes};
-ghost use Rattle.pieces.specs.Number.{is_digit, digits, digits_from, begins, positive_at, natural_at, negative, signed_at, no_more, unsigned_at, count_at, long_at, any_number_at, is_absent, optional_long_at, optional_text};
+ghost use Rattle.pieces.specs.Number.{is_digit, digits, digits_from, begins, positive_at, natural_at, negative, value_of, after_of, signed_as, signed_at, no_more, unsigned_at, count_at, long_at, any_number_at, is_absent, optional_long_at, optional_text};
 
 use crate::refusal::PieceRefusal;
 use crate::word::stands;
@@ -20,15 +20,32 @@ const LARGEST: u64 = 9_223_372_036_854_775_807;
 #[derive(Clone, Copy)]
 pub enum Digits {
     /// A number that is no more than the most, and the place after its last digit.
-    Within { value: u64, after: usize },
-    /// A number above the most: the place of the digit that passes it, and the place after the last
-    /// digit.
-    Over { place: usize, after: usize },
+    Within {
+        value: u64,
+        after: usize,
+    },
+    /// A number above the most: what the digits before the one that passes it make, the place of
+    /// that digit, and the place after the last digit.
+    Over {
+        value: u64,
+        place: usize,
+        after: usize,
+    },
 }
 
-/// A number with its sign and the place after it; or, of one that is not of 64 bits, the place of
-/// the digit that passes them and the place after it.
-type Signed = Result<(i64, usize), (usize, usize)>;
+/// A number past 64 bits. Places count bytes from 0.
+#[derive(Clone, Copy, Debug, PartialEq, Eq)]
+pub struct Passed {
+    /// What its digits make before the one that passes 64 bits, with its sign.
+    pub front: i64,
+    /// The place of that digit.
+    pub place: usize,
+    /// The place after the last digit.
+    pub after: usize,
+}
+
+/// A number of 64 bits with its sign and the place after it; or one past 64 bits.
+pub type Signed = Result<(i64, usize), Passed>;
 
 /// The number of 64 bits without sign at `place`, a count of bytes from 0, and the place after it.
 /// `Syntax`: no digit stands there, or the number ends above 64 bits; the place of the digit that
@@ -60,10 +77,10 @@ pub fn take_long(text: &str, place: usize) -> Result<(i64, usize), PieceRefusal>
     ensures exact { result ≡ long_at text.now place }
     ensures within { IfOk result (λ read. (place ≤ read.1) × (read.1 ≤ length text.now)) }
 {
-    match signed(text.as_bytes(), place)? {
+    match take_signed(text, place)? {
         Ok(read) => Ok(read),
-        Err((place, _)) => Err(PieceRefusal::Syntax {
-            place: place as u64,
+        Err(passed) => Err(PieceRefusal::Syntax {
+            place: passed.place as u64,
         }),
     }
 }
@@ -76,10 +93,25 @@ pub fn take_any_number(text: &str, place: usize) -> Result<(Option<i64>, usize),
     ensures exact { result ≡ any_number_at text.now place }
     ensures within { IfOk result (λ read. (place ≤ read.1) × (read.1 ≤ length text.now)) }
 {
-    match signed(text.as_bytes(), place)? {
+    match take_signed(text, place)? {
         Ok((number, after)) => Ok((Some(number), after)),
-        Err((_, after)) => Ok((None, after)),
+        Err(passed) => Ok((None, passed.after)),
     }
+}
+
+/// The number of any size at `place`, a count of bytes from 0: one of 64 bits with the place after
+/// it, or what is told of one past them.
+/// `Syntax`: no number stands there.
+pub fn take_signed(text: &str, place: usize) -> Result<Signed, PieceRefusal>
+    requires { place ≤ length text.now }
+    ensures exact { result ≡ signed_at text.now place }
+    ensures within { IfOk result
+        (λ read. (place ≤ after_of read) × (after_of read ≤ length text.now)) }
+{
+    if stands(text.as_bytes(), place, b'-') {
+        return Ok(signed_below(positive(text.as_bytes(), place + 1, LARGEST_BELOW)?));
+    }
+    Ok(signed_above(natural(text.as_bytes(), place, LARGEST)?))
 }
 
 /// The number of 64 bits with a sign at `place`, a count of bytes from 0, and the place after it.
@@ -141,20 +173,41 @@ fn no_more(digits: Digits) -> Result<(u64, usize), PieceRefusal>
     }
 }
 
-/// The number of any size at the place.
-fn signed(bytes: &[u8], place: usize) -> Result<Signed, PieceRefusal>
-    requires { place ≤ length bytes.now }
-    ensures { result ≡ signed_at bytes.now place }
+/// What digits make behind a minus sign.
+fn signed_below(digits: Digits) -> Signed
+    requires { value_of digits ≤ 2 ^ 63 }
+    ensures { result ≡ signed_as negative digits }
 {
-    if stands(bytes, place, b'-') {
-        return match positive(bytes, place + 1, LARGEST_BELOW)? {
-            Digits::Within { value, after } => Ok(Ok((below_zero(value), after))),
-            Digits::Over { place, after } => Ok(Err((place, after))),
-        };
+    match digits {
+        Digits::Within { value, after } => Ok((below_zero(value), after)),
+        Digits::Over {
+            value,
+            place,
+            after,
+        } => Err(Passed {
+            front: below_zero(value),
+            place,
+            after,
+        }),
     }
-    match natural(bytes, place, LARGEST)? {
-        Digits::Within { value, after } => Ok(Ok((above_zero(value), after))),
-        Digits::Over { place, after } => Ok(Err((place, after))),
+}
+
+/// What digits make behind no sign.
+fn signed_above(digits: Digits) -> Signed
+    requires { value_of digits ≤ 2 ^ 63 - 1 }
+    ensures { result ≡ signed_as pos digits }
+{
+    match digits {
+        Digits::Within { value, after } => Ok((above_zero(value), after)),
+        Digits::Over {
+            value,
+            place,
+            after,
+        } => Err(Passed {
+            front: above_zero(value),
+            place,
+            after,
+        }),
     }
 }
 
@@ -227,7 +280,11 @@ fn take_digits(bytes: &[u8], place: usize, most: u64) -> Digits
             Some(next) => value = next,
             None => {
                 let after = skip_digits(bytes, at + 1);
-                return Digits::Over { place: at, after };
+                return Digits::Over {
+                    value,
+                    place: at,
+                    after,
+                };
             }
         }
     }

@@ -7,6 +7,14 @@ fn syntax(place: u64) -> PieceRefusal {
     PieceRefusal::Syntax { place }
 }
 
+fn passed(front: i64, place: usize, after: usize) -> Result<Signed, PieceRefusal> {
+    Ok(Err(Passed {
+        front,
+        place,
+        after,
+    }))
+}
+
 #[test]
 fn a_word_is_refused_at_its_first_wrong_byte(rt: HostRuntime) {
     let table: [(&str, Result<usize, PieceRefusal>); 5] = [
@@ -108,6 +116,37 @@ fn a_long_has_64_bits_and_one_spelling(rt: HostRuntime) {
     ];
     for (text, read) in table {
         assert_eq!(rt; take_long(text, 0), read, "{text}");
+    }
+}
+
+#[test]
+fn a_number_past_64_bits_tells_what_stands_before_the_digit(rt: HostRuntime) {
+    let table: [(&str, Result<Signed, PieceRefusal>); 7] = [
+        ("12", Ok(Ok((12, 2)))),
+        (
+            "-9223372036854775808",
+            Ok(Ok((-9_223_372_036_854_775_808, 20))),
+        ),
+        (
+            "9223372036854775808,",
+            passed(922_337_203_685_477_580, 18, 19),
+        ),
+        (
+            "922337203685477580700",
+            passed(9_223_372_036_854_775_807, 19, 21),
+        ),
+        (
+            "-9223372036854775809",
+            passed(-922_337_203_685_477_580, 19, 20),
+        ),
+        (
+            "-92233720368547758080",
+            passed(-9_223_372_036_854_775_808, 20, 21),
+        ),
+        ("-0", Err(syntax(1))),
+    ];
+    for (text, read) in table {
+        assert_eq!(rt; take_signed(text, 0), read, "{text}");
     }
 }
 

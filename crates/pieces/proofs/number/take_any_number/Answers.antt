@@ -6,4 +6,4 @@ pub returns-in-Ok-clause-within : goal.returns-in-Ok-clause-within
 returns-in-Ok-clause-within c = any_number_within c.args.text.now c.args.place (Ok (Some c.in-Ok.number, c.in-Ok.after)) (search rules)
 
 pub returns-in-Err-clause-within : goal.returns-in-Err-clause-within
-returns-in-Err-clause-within c = any_number_within c.args.text.now c.args.place (Ok (None, c.in-Err.after)) (search rules)
+returns-in-Err-clause-within c = any_number_within c.args.text.now c.args.place (Ok (None, c.in-Err.passed.after)) (search rules)
