@@ -7,14 +7,15 @@ use Rattle.std.specs.Ordering.{int_eq}
 use Rattle.std.proofs.lemmas.Bool.{false_from_ne_true}
 use Rattle.std.proofs.lemmas.Bool.Decides.{Decides-int_eq}
 use Rattle.std.proofs.lemmas.List.{length-append, length-drop}
+use Rattle.words.specs.Reading.{◌>>=◌}
 use Rattle.lt_base.specs.declared.entry.Run.{Run}
 use Rattle.lt_base.specs.Fits.{IsRun, AreRuns}
 use Rattle.pieces.specs.declared.refusal.PieceRefusal.{PieceRefusal}
 use Rattle.pieces.specs.Word.{is_this, byte_at, spaces}
-use Rattle.pieces.specs.Number.{digits, begins, long_at, count_at, is_absent}
+use Rattle.pieces.specs.Number.{digits, begins, Signed, count_at, is_absent}
 use Rattle.pieces.proofs.WordLaws.{stands_first, behind, is_this_again, is_this_other, byte_again, no_space_first}
-use Rattle.pieces.proofs.NumberLaws.{no_digit_first, long_again, count_again, not_absent, long_no_space}
-use Rattle.history_log.specs.Runs.{run_text, next_run_text, runs_text, goes_on, run_at, runs_at}
+use Rattle.pieces.proofs.NumberLaws.{no_digit_first, signed_again, count_again, not_absent, long_no_space}
+use Rattle.history_log.specs.Runs.{run_text, next_run_text, runs_text, goes_on, first_of, first_at, run_at, runs_at}
 use Rattle.history_log.proofs.RunsLemmas.{RunsFrom, no_runs, runs_begin, runs_on, runs_done}
 
 -- ---- one run
@@ -27,7 +28,7 @@ run_again run read input rest place is apart e none =
     let whole : drop place input ≡ first ++ (43 ∷ (count ++ rest)) = e ∙ append_assoc first (43 ∷ count) rest in
     let at_plus : drop (place + length first) input ≡ 43 ∷ (count ++ rest) = behind first input (43 ∷ (count ++ rest)) place whole in
     let at_count : drop (place + length first + 1) input ≡ count ++ rest = behind (43 ∷ []) input (count ++ rest) (place + length first) at_plus in
-    let one : long_at input place ≡ Ok (run.first, place + length first) = long_again run.first input (43 ∷ (count ++ rest)) place is.first whole (no_digit_first 43 (count ++ rest) refl) in
+    let one : first_at input read place ≡ Ok (run.first, place + length first) = ap (λ (r : Result Signed PieceRefusal). r >>= first_of read) (signed_again run.first input (43 ∷ (count ++ rest)) place is.first whole (no_digit_first 43 (count ++ rest) refl)) in
     let plus : byte_at 43 input (place + length first) ≡ Ok (place + length first + 1) = byte_again 43 input (count ++ rest) (place + length first) at_plus in
     let two : count_at input (place + length first + 1) ≡ Ok (run.count, place + length first + 1 + length count) = count_again run.count input rest (place + length first + 1) is.some is.count at_count none in
     let size : place + length first + 1 + length count ≡ place + length (run_text run) = omega (arith, length-append first (43 ∷ count)) in

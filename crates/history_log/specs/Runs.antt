@@ -7,8 +7,9 @@ use Rattle.words.specs.Reading.{◌>>=◌}
 use Rattle.lt_base.specs.declared.entry.Run.{Run}
 use Rattle.pieces.specs.declared.refusal.PieceRefusal.{PieceRefusal}
 use Rattle.pieces.specs.declared.refusal.PieceRefusal.TheVariants.{Syntax}
+use Rattle.pieces.specs.declared.number.Passed.{Passed}
 use Rattle.pieces.specs.Word.{is_this, byte_at}
-use Rattle.pieces.specs.Number.{long_at, count_at, is_absent}
+use Rattle.pieces.specs.Number.{Signed, signed_at, count_at, is_absent}
 use Rattle.pieces.specs.Many.{many}
 
 -- ---- as they are printed
@@ -41,6 +42,19 @@ may_grow first = not (int_eq first (pos 0)) && int_lt (negsuc 922337203685477580
 abbrev pub stop_of : ℤ → ℕ → ℕ
 stop_of first after = if may_grow first then after else after - 1
 
+-- where a first id past 64 bits stops: at the digit that passes them, or where the id before that digit does, if the run before goes on at it
+abbrev pub stop_past : List Run → Passed → ℕ
+stop_past read passed = if goes_on read passed.front then stop_of passed.front passed.place else passed.place
+
+-- a first id behind runs, which is of 64 bits
+abbrev pub first_of : List Run → Signed → Result (ℤ × ℕ) PieceRefusal
+first_of read (Ok first) = Ok first
+first_of read (Err passed) = Err (Syntax (stop_past read passed))
+
+-- the first id of a run behind those that were read
+abbrev pub first_at : List ℕ → List Run → ℕ → Result (ℤ × ℕ) PieceRefusal
+first_at input read place = signed_at input place >>= first_of read
+
 -- the plus sign behind a first id; no run begins where the one before it goes on
 abbrev pub plus_at : List Run → ℤ → List ℕ → ℕ → Result ℕ PieceRefusal
 plus_at read first input place = if goes_on read first then Err (Syntax (stop_of first place)) else byte_at 43 input place
@@ -48,7 +62,7 @@ plus_at read first input place = if goes_on read first then Err (Syntax (stop_of
 -- a run behind those that were read
 abbrev pub run_at : List ℕ → List Run → ℕ → Result (Run × ℕ) PieceRefusal
 run_at input read place =
-    long_at input place >>= λ first. plus_at read first.0 input first.1 >>= λ start. count_at input start >>= λ count. Ok (record { first = first.0; count = count.0 }, count.1)
+    first_at input read place >>= λ first. plus_at read first.0 input first.1 >>= λ start. count_at input start >>= λ count. Ok (record { first = first.0; count = count.0 }, count.1)
 
 -- a comma behind a run says that there is another one
 abbrev pub comma_at : List ℕ → ℕ → Result (Option ℕ) PieceRefusal

@@ -63,7 +63,7 @@ fn runs_are_read_up_to_where_they_end(rt: HostRuntime) -> Result<(), Fail> {
 
 #[test]
 fn runs_are_refused_at_their_first_wrong_byte(rt: HostRuntime) {
-    let table: [(&str, u64); 15] = [
+    let table: [(&str, u64); 21] = [
         ("", 0),
         ("x", 0),
         ("0", 1),
@@ -81,6 +81,14 @@ fn runs_are_refused_at_their_first_wrong_byte(rt: HostRuntime) {
         ("-2+1,-1+2", 7),
         ("-2+1,0+1,1+1", 10),
         ("9223372036854775806+1,9223372036854775807+1", 40),
+        // So it is where more digits stand behind such an id, and pass 64 bits.
+        ("922337203685477580+1,9223372036854775810+1", 38),
+        ("-922337203685477582+1,-9223372036854775810+1", 40),
+        ("0+9223372036854775807,92233720368547758070+1", 40),
+        // The digit itself is wrong where another one may stand there, or a run may begin.
+        ("922337203685477579+1,9223372036854775808+1", 39),
+        ("0+1,92233720368547758080+1", 22),
+        ("922337203685477580+2,9223372036854775810+1", 39),
     ];
     for (text, place) in table {
         match take_runs(rt.alloc(), text, 0) {

@@ -6,11 +6,13 @@ ghost use Rattle.std.specs.Ordering.{int_eq};
 ghost use Rattle.std.specs.String.{string_bytes};
 ghost use Rattle.words.specs.Reading.{Gives};
 ghost use Rattle.pieces.specs.Refusal.{is_memory as is_memory_of_piece};
-ghost use Rattle.history_log.specs.Runs.{run_text, next_run_text, runs_text, goes_on, may_grow, stop_of, plus_at, run_at, runs_at};
+ghost use Rattle.history_log.specs.Runs.{run_text, next_run_text, runs_text, goes_on, may_grow, stop_of, stop_past, first_at, plus_at, run_at, runs_at};
 
 use lists::List;
 use lt_base::{Run, Runs};
-use pieces::{PieceRefusal, is_absent, put_long, stands, take_byte, take_count, take_long};
+use pieces::{
+    Passed, PieceRefusal, is_absent, put_long, stands, take_byte, take_count, take_signed,
+};
 use std::alloc::{AllocError, Global};
 
 /// The runs at `place`, a count of bytes from 0, and the place after them.
@@ -51,10 +53,36 @@ fn take_run(text: &str, place: usize, read: &[Run]) -> Result<(Run, usize), Piec
     ensures exact { result ≡ run_at text.now read.now place }
     ensures within { IfOk result (λ run. (place ≤ run.1) × (run.1 ≤ length text.now)) }
 {
-    let (first, after) = take_long(text, place)?;
+    let (first, after) = take_first(text, place, read)?;
     let start = take_plus(text, after, read, first)?;
     let (count, end) = take_count(text, start)?;
     Ok((Run { first, count }, end))
+}
+
+/// The first id of a run behind those that were read.
+fn take_first(text: &str, place: usize, read: &[Run]) -> Result<(i64, usize), PieceRefusal>
+    requires { place ≤ length text.now }
+    ensures exact { result ≡ first_at text.now read.now place }
+    ensures within { IfOk result (λ first. (place ≤ first.1) × (first.1 ≤ length text.now)) }
+{
+    match take_signed(text, place)? {
+        Ok(first) => Ok(first),
+        Err(passed) => Err(PieceRefusal::Syntax {
+            place: stop_past(read, passed) as u64,
+        }),
+    }
+}
+
+/// Where a first id past 64 bits stops: at the digit that passes them, or where the id before that
+/// digit does, if the run before goes on at it.
+fn stop_past(read: &[Run], passed: Passed) -> usize
+    ensures { result ≡ stop_past read.now passed }
+{
+    if goes_on(read, passed.front) {
+        stop_of(passed.front, passed.place)
+    } else {
+        passed.place
+    }
 }
 
 /// The place behind the plus sign after a first id; no run begins where the one before it goes on.
