@@ -61,3 +61,34 @@ append_goes_to = refl
 pub both_are_history : IsHistory (empty 2 None) (upgrade ∷ append ∷ []) (one_row (pos 1))
 unfolding broken_rule applied is_rising ids_from AreLegal state_after
 both_are_history = record { opening = refl; legal = (refl, (refl, tt)); state = refl }
+
+-- the entry that appends a row without cells in version 2
+abbrev pub append_unnamed : Entry
+append_unnamed = record { who = 1; request = Append ([] ∷ []); seq = Some (pos 1); named = []; given = []; next = None }
+
+-- a table with that row
+abbrev pub one_unnamed : ℕ → Option ℤ → State
+one_unnamed version next = record { version = version; unnamed = (pos 1, []) ∷ []; rows = []; next = next; seq = pos 1 }
+
+-- the entry that appends another one in version 3
+abbrev pub append_second : Entry
+append_second = record { who = 1; request = Append ([] ∷ []); seq = Some (pos 2); named = record { first = pos 0; count = pos 1 } ∷ []; given = record { first = pos 1; count = pos 1 } ∷ []; next = Some (pos 2) }
+
+-- the table with both
+abbrev pub two_rows : State
+two_rows = record { version = 3; unnamed = []; rows = (pos 0, (pos 1, [])) ∷ (pos 1, (pos 2, [])) ∷ []; next = Some (pos 2); seq = pos 2 }
+
+-- the append in version 2 is legal
+pub append_unnamed_is_legal : LegalStep (empty 2 None) append_unnamed (one_unnamed 2 None)
+unfolding broken_rule applied is_rising ids_from
+append_unnamed_is_legal = record { legal = refl; state = refl }
+
+-- so is the upgrade behind it
+pub unnamed_is_history : IsHistory (empty 2 None) (append_unnamed ∷ upgrade ∷ []) (one_unnamed 3 (Some (pos 0)))
+unfolding broken_rule applied is_rising ids_from AreLegal state_after
+unnamed_is_history = record { opening = refl; legal = (refl, (refl, tt)); state = refl }
+
+-- so is the other append behind that
+pub append_second_is_legal : LegalStep (one_unnamed 3 (Some (pos 0))) append_second two_rows
+unfolding broken_rule applied is_rising ids_from
+append_second_is_legal = record { legal = refl; state = refl }

@@ -1,6 +1,8 @@
 mod Distinct
 mod Rules
 mod RowLemmas
+mod Pairs
+mod Placed
 mod Cases
 mod Right
 mod Leads
@@ -8,5 +10,14 @@ mod Step
 mod Given
 mod NextId
 mod Appends
+mod GoTo
+mod LastChanges
+mod FirstIds
+mod MayBegin
+mod LaterLasts
+mod Commits
+mod EndsMayBegin
+mod GivenIds
+mod AppendInTwo
 mod Unchanged
 mod Example

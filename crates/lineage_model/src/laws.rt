@@ -1,9 +1,14 @@
 //! What follows for every legal history. Each law is the contract of a function that does nothing.
 
-ghost use Rattle.std.specs.Prelude.{◌≡◌, ◌≢◌, ℤ, All, Some, [], ◌++◌};
-ghost use Rattle.std.specs.List.{AllPairs};
+ghost use Rattle.std.specs.Prelude.{◌≡◌, ◌≢◌, ℕ, ℤ, true, All, List, [], ◌++◌, map, Some};
+ghost use Rattle.std.specs.List.{AllPairs, slice_get};
 ghost use Rattle.lt_base.specs.RowMap.{UnnamedRow, row_at};
-ghost use Rattle.lineage_model.specs.Step.{LegalStep};
+ghost use Rattle.lt_base.specs.declared.cell.Cell.{Cell};
+ghost use Rattle.lt_base.specs.declared.request.Request.TheVariants.{Append};
+ghost use Rattle.lineage_model.specs.Ids.{ids_of};
+ghost use Rattle.lineage_model.specs.Rows.{stamped};
+ghost use Rattle.lineage_model.specs.Opening.{is_opening};
+ghost use Rattle.lineage_model.specs.Step.{gives_ids, ids_given_by, LegalStep};
 ghost use Rattle.lineage_model.specs.History.{IsHistory, AreLegal, state_after, ids_given, IsBelow, DidNotFall, IsAppend, IsCompaction, IsUpgrade};
 
 use lt_base::{Entries, Entry, State};
@@ -17,6 +22,12 @@ pub fn no_id_is_given_twice(start: &State, entries: &Entries, end: &State)
 {
     let _rows = start.rows.iter();
 }
+
+/// The state at the end of a legal history is one that a history may begin with.
+pub fn an_end_may_begin_a_history(start: &State, entries: &Entries, end: &State)
+    requires history { IsHistory start.now entries.now end.now }
+    ensures { is_opening end.now ≡ true }
+{}
 
 /// The next id never falls from one point of a history to a later one of the same version.
 pub fn next_never_falls(
@@ -63,4 +74,42 @@ pub fn an_append_keeps_each_row(
     requires append { IsAppend entry.now.request }
     ensures { (id : ℤ) (row : UnnamedRow) → row_at before.now.rows id ≡ Some row
         → row_at after.now.rows id ≡ Some row }
+{}
+
+/// Where ids are given, the rows without id get the named ones in their order, each as it was, and
+/// the appended rows the given ones in theirs, changed last at the new sequence number. No other
+/// row differs, and none is left without an id. Iceberg spec, "Row Lineage".
+pub fn rows_get_their_ids_in_order(
+    start: &State,
+    entries: &Entries,
+    before: &State,
+    entry: &Entry,
+    after: &State,
+)
+    requires history { IsHistory start.now entries.now before.now }
+    requires step { LegalStep before.now entry.now after.now }
+    requires gives { gives_ids before.now entry.now.request ≡ true }
+    ensures named { (i : ℕ) (id : ℤ) (row : UnnamedRow)
+        → slice_get (ids_of entry.now.named) i ≡ Some id
+        → slice_get before.now.unnamed i ≡ Some row
+        → row_at after.now.rows id ≡ Some row }
+    ensures given { (rows : List (List Cell)) (j : ℕ) (id : ℤ) (cells : List Cell)
+        → entry.now.request ≡ Append rows
+        → slice_get (ids_of entry.now.given) j ≡ Some id
+        → slice_get rows j ≡ Some cells
+        → row_at after.now.rows id ≡ Some (after.now.seq, cells) }
+    ensures others { (id : ℤ) → All (λ given. given ≢ id) (ids_given_by entry.now)
+        → row_at after.now.rows id ≡ row_at before.now.rows id }
+    ensures all_named { after.now.unnamed ≡ [] }
+{}
+
+/// An append in version 2 puts its rows behind those without id, changed last at the new sequence
+/// number, and names no row.
+pub fn an_append_of_version_2_names_no_row(before: &State, entry: &Entry, after: &State)
+    requires step { LegalStep before.now entry.now after.now }
+    requires append { IsAppend entry.now.request }
+    requires version { before.now.version ≡ 2 }
+    ensures rows { after.now.rows ≡ before.now.rows }
+    ensures unnamed { (rows : List (List Cell)) → entry.now.request ≡ Append rows
+        → after.now.unnamed ≡ before.now.unnamed ++ map (stamped after.now.seq) rows }
 {}

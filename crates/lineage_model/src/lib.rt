@@ -6,7 +6,7 @@
 //! |---|---|
 //! | `rule` | the rules that a step can break |
 //! | `laws` | what follows for every legal history |
-//! | `tests` | the names of the rules, and the laws at a small table |
+//! | `tests` | the names of the rules, and the laws at small tables |
 #![tactic(auto)]
 
 pub mod laws;

@@ -1,4 +1,4 @@
-//! The names of the rules, and each law at a small table.
+//! The names of the rules, and each law at small tables.
 
 ghost use Rattle.std.specs.Prelude.{◌≡◌, pos, [], ◌∷◌, Some, None, IfOk};
 ghost use Rattle.lt_base.specs.declared.request.Request.TheVariants.{Append, Compact, Upgrade};
@@ -148,10 +148,122 @@ fn the_laws_hold_of_a_table_that_is_upgraded_and_gets_a_row(rt: HostRuntime) -> 
     entries.push(upgrade)?;
     let last = append(alloc)?;
     an_append_keeps_each_row(&start, &entries, &upgraded, &last, &end);
+    rows_get_their_ids_in_order(&start, &entries, &upgraded, &last, &end);
     let mut later: Entries = List::new(alloc);
     later.push(append(alloc)?)?;
     next_never_falls(&start, &entries, &upgraded, &later, &end);
     entries.push(last)?;
     no_id_is_given_twice(&start, &entries, &end);
+    an_end_may_begin_a_history(&start, &entries, &end);
+    Ok(())
+}
+
+/// The entry that appends a row without cells in version 2.
+fn append_unnamed(alloc: Global) -> Result<Entry, AllocError>
+    ensures { IfOk result (λ entry. entry ≡ record {
+      who = 1;
+      request = Append ([] ∷ []);
+      seq = Some (pos 1);
+      named = [];
+      given = [];
+      next = None;
+    }) }
+{
+    let mut rows = List::new(alloc);
+    rows.push(List::new(alloc))?;
+    Ok(Entry {
+        who: 1,
+        request: Request::Append(rows),
+        seq: Some(1),
+        named: List::new(alloc),
+        given: List::new(alloc),
+        next: None,
+    })
+}
+
+/// A table with one row without id, which came by the first commit.
+fn one_unnamed(alloc: Global, version: u8, next: Option<i64>) -> Result<State, AllocError>
+    ensures { IfOk result (λ state. state ≡ record {
+      version = version;
+      unnamed = (pos 1, []) ∷ [];
+      rows = [];
+      next = next;
+      seq = pos 1;
+    }) }
+{
+    let mut unnamed = List::new(alloc);
+    unnamed.push((1, List::new(alloc)))?;
+    Ok(State {
+        version,
+        unnamed,
+        rows: RowMap::new(alloc),
+        next,
+        seq: 1,
+    })
+}
+
+/// The entry that appends a row to that table in version 3, and names the one that it has.
+fn append_second(alloc: Global) -> Result<Entry, AllocError>
+    ensures { IfOk result (λ entry. entry ≡ record {
+      who = 1;
+      request = Append ([] ∷ []);
+      seq = Some (pos 2);
+      named = record { first = pos 0; count = pos 1 } ∷ [];
+      given = record { first = pos 1; count = pos 1 } ∷ [];
+      next = Some (pos 2);
+    }) }
+{
+    let mut rows = List::new(alloc);
+    rows.push(List::new(alloc))?;
+    let mut named = List::new(alloc);
+    named.push(Run { first: 0, count: 1 })?;
+    let mut given = List::new(alloc);
+    given.push(Run { first: 1, count: 1 })?;
+    Ok(Entry {
+        who: 1,
+        request: Request::Append(rows),
+        seq: Some(2),
+        named,
+        given,
+        next: Some(2),
+    })
+}
+
+/// The table with both rows.
+fn two_rows(alloc: Global) -> Result<State, AllocError>
+    ensures { IfOk result (λ state. state ≡ record {
+      version = 3;
+      unnamed = [];
+      rows = (pos 0, (pos 1, [])) ∷ (pos 1, (pos 2, [])) ∷ [];
+      next = Some (pos 2);
+      seq = pos 2;
+    }) }
+{
+    let mut rows = RowMap::new(alloc);
+    rows.insert(0, 1, List::new(alloc))?;
+    rows.insert(1, 2, List::new(alloc))?;
+    Ok(State {
+        version: 3,
+        unnamed: List::new(alloc),
+        rows,
+        next: Some(2),
+        seq: 2,
+    })
+}
+
+#[test]
+fn a_row_of_version_2_gets_its_id_by_the_next_append(rt: HostRuntime) -> Result<(), Fail> {
+    let alloc = rt.alloc();
+    let start = empty(alloc, 2, None);
+    let first = append_unnamed(alloc)?;
+    let unnamed = one_unnamed(alloc, 2, None)?;
+    an_append_of_version_2_names_no_row(&start, &first, &unnamed);
+    let mut entries: Entries = List::new(alloc);
+    entries.push(first)?;
+    entries.push(upgrade(alloc))?;
+    let upgraded = one_unnamed(alloc, 3, Some(0))?;
+    let second = append_second(alloc)?;
+    let end = two_rows(alloc)?;
+    rows_get_their_ids_in_order(&start, &entries, &upgraded, &second, &end);
     Ok(())
 }
