@@ -1,5 +1,5 @@
 -- What stands at an id behind an entry.
-use Rattle.std.proofs.Common.{◌≡◌, ◌≢◌, ℤ, pos, ◌+ℤ◌, ◌<ℤ◌, ◌≤ℤ◌, List, [], map, All, Option, Some, None, ◌∙◌, arith}
+use Rattle.std.proofs.Common.{◌≡◌, ◌≢◌, ℤ, ◌<ℤ◌, ◌≤ℤ◌, List, [], All, Option, Some, None, ◌∙◌, arith}
 use Rattle.std.specs.Map.{keys_of}
 use Rattle.std.proofs.lemmas.Int.{ints}
 use Rattle.std.proofs.lemmas.List.Elements.{All-weaker}
@@ -8,7 +8,7 @@ use Rattle.lt_base.specs.declared.cell.Cell.{Cell}
 use Rattle.lt_base.specs.declared.entry.Entry.{Entry}
 use Rattle.lt_base.specs.declared.state.State.{State}
 use Rattle.lineage_model.specs.Ids.{ids_of}
-use Rattle.lineage_model.specs.Rows.{stamped, under}
+use Rattle.lineage_model.specs.Rows.{under}
 use Rattle.lineage_model.specs.Step.{applied, ids_given_by, rows_after, LegalStep}
 use Rattle.lineage_model.specs.History.{IsBelow, IsAppend}
 use Rattle.lineage_model.proofs.Cases.{by_request, by_version}
@@ -27,11 +27,11 @@ others low (Some high) id ids below lead = All-weaker (λ other. (low ≤ℤ oth
 stays : (low : ℤ) (next : Option ℤ) (state : State) (entry : Entry) (adds : List (List Cell)) (id : ℤ) → id <ℤ low → LeadTo (Some low) next (ids_given_by entry)
     → row_at (rows_after state entry (record { adds = adds; changes = []; removes = [] })) id ≡ row_at state.rows id
 stays low next state entry adds id below lead =
-    let new = map (stamped (state.seq +ℤ pos 1)) adds in
     let apart = others low next id (ids_given_by entry) below lead in
-    let named = All-under (λ other. id ≢ other) (ids_of entry.named) state.unnamed (All-first (λ other. id ≢ other) (ids_of entry.named) (ids_of entry.given) apart) in
-    let given = All-under (λ other. id ≢ other) (ids_of entry.given) new (All-second (λ other. id ≢ other) (ids_of entry.named) (ids_of entry.given) apart) in
-    row_at-with_rows _ (under (ids_of entry.given) new) id given ∙ row_at-with_rows state.rows (under (ids_of entry.named) state.unnamed) id named
+    let named = All-first (λ other. id ≢ other) (ids_of entry.named) (ids_of entry.given) apart in
+    let given = All-second (λ other. id ≢ other) (ids_of entry.named) (ids_of entry.given) apart in
+    row_at-with_rows _ (under (ids_of entry.given) _) id (All-under (λ other. id ≢ other) (ids_of entry.given) _ given)
+    ∙ row_at-with_rows state.rows (under (ids_of entry.named) _) id (All-under (λ other. id ≢ other) (ids_of entry.named) _ named)
 
 -- an entry keeps what stands at each id
 abbrev KeepsRows : State → Entry → Type 0

@@ -1,5 +1,5 @@
 -- The ids that an entry gives, by the next ids before and behind it.
-use Rattle.std.proofs.Common.{◌≡◌, ◌==◌, ℤ, pos, ◌+ℤ◌, ◌<ℤ◌, ◌≤ℤ◌, int_lt, true, false, not, List, [], length, map, All, Option, Some, None, is_some, refl, arith, eqb-true}
+use Rattle.std.proofs.Common.{◌≡◌, ◌==◌, ℤ, ◌<ℤ◌, ◌≤ℤ◌, int_lt, true, false, not, List, [], length, All, Option, Some, None, is_some, refl, arith, eqb-true}
 use Rattle.std.specs.Option.{is_none as is_absent}
 use Rattle.std.specs.Map.{keys_of}
 use Rattle.std.proofs.lemmas.Bool.{and_parts, not-false, not-true}
@@ -10,7 +10,7 @@ use Rattle.lt_base.specs.declared.cell.Cell.{Cell}
 use Rattle.lt_base.specs.declared.entry.Entry.{Entry}
 use Rattle.lt_base.specs.declared.state.State.{State}
 use Rattle.lineage_model.specs.Ids.{ids_of, is_rising}
-use Rattle.lineage_model.specs.Rows.{stamped, under}
+use Rattle.lineage_model.specs.Rows.{under}
 use Rattle.lineage_model.specs.Step.{are_fresh, ids_given_by, rows_after}
 use Rattle.lineage_model.specs.History.{IsBelow}
 use Rattle.lineage_model.proofs.Cases.{HasNext}
@@ -67,7 +67,6 @@ rows_below low (Some high) state entry adds lead below =
     let P = λ (id : ℤ). id <ℤ high in
     let old : All P (keys_of state.rows) = All-weaker (λ id. id <ℤ low) P (λ id under_low. omega (arith, ints, lead.2)) (keys_of state.rows) below in
     let ids : All P (ids_given_by entry) = All-weaker (λ id. (low ≤ℤ id) × (id <ℤ high)) P (λ id both. both.1) (ids_given_by entry) lead.1 in
-    let named : All P (keys_of (under (ids_of entry.named) state.unnamed)) = All-under P (ids_of entry.named) state.unnamed (All-first P (ids_of entry.named) (ids_of entry.given) ids) in
-    let new = map (stamped (state.seq +ℤ pos 1)) adds in
-    let given : All P (keys_of (under (ids_of entry.given) new)) = All-under P (ids_of entry.given) new (All-second P (ids_of entry.named) (ids_of entry.given) ids) in
-    All-with_rows P _ (under (ids_of entry.given) new) (All-with_rows P state.rows (under (ids_of entry.named) state.unnamed) old named) given
+    let named = All-first P (ids_of entry.named) (ids_of entry.given) ids in
+    let given = All-second P (ids_of entry.named) (ids_of entry.given) ids in
+    All-with_rows P _ (under (ids_of entry.given) _) (All-with_rows P state.rows (under (ids_of entry.named) _) old (All-under P (ids_of entry.named) _ named)) (All-under P (ids_of entry.given) _ given)
