@@ -83,12 +83,7 @@ pub append_unnamed_is_legal : LegalStep (empty 2 None) append_unnamed (one_unnam
 unfolding broken_rule applied is_rising ids_from
 append_unnamed_is_legal = record { legal = refl; state = refl }
 
--- so is the upgrade behind it
-pub unnamed_is_history : IsHistory (empty 2 None) (append_unnamed ∷ upgrade ∷ []) (one_unnamed 3 (Some (pos 0)))
-unfolding broken_rule applied is_rising ids_from AreLegal state_after
-unnamed_is_history = record { opening = refl; legal = (refl, (refl, tt)); state = refl }
-
--- so is the other append behind that
+-- so is the one behind an upgrade of that
 pub append_second_is_legal : LegalStep (one_unnamed 3 (Some (pos 0))) append_second two_rows
 unfolding broken_rule applied is_rising ids_from
 append_second_is_legal = record { legal = refl; state = refl }

@@ -79,14 +79,7 @@ pub fn an_append_keeps_each_row(
 /// Where ids are given, the rows without id get the named ones in their order, each as it was, and
 /// the appended rows the given ones in theirs, changed last at the new sequence number. No other
 /// row differs, and none is left without an id. Iceberg spec, "Row Lineage".
-pub fn rows_get_their_ids_in_order(
-    start: &State,
-    entries: &Entries,
-    before: &State,
-    entry: &Entry,
-    after: &State,
-)
-    requires history { IsHistory start.now entries.now before.now }
+pub fn rows_get_their_ids_in_order(before: &State, entry: &Entry, after: &State)
     requires step { LegalStep before.now entry.now after.now }
     requires gives { gives_ids before.now entry.now.request ≡ true }
     ensures named { (i : ℕ) (id : ℤ) (row : UnnamedRow)

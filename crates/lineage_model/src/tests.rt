@@ -148,7 +148,7 @@ fn the_laws_hold_of_a_table_that_is_upgraded_and_gets_a_row(rt: HostRuntime) -> 
     entries.push(upgrade)?;
     let last = append(alloc)?;
     an_append_keeps_each_row(&start, &entries, &upgraded, &last, &end);
-    rows_get_their_ids_in_order(&start, &entries, &upgraded, &last, &end);
+    rows_get_their_ids_in_order(&upgraded, &last, &end);
     let mut later: Entries = List::new(alloc);
     later.push(append(alloc)?)?;
     next_never_falls(&start, &entries, &upgraded, &later, &end);
@@ -258,12 +258,9 @@ fn a_row_of_version_2_gets_its_id_by_the_next_append(rt: HostRuntime) -> Result<
     let first = append_unnamed(alloc)?;
     let unnamed = one_unnamed(alloc, 2, None)?;
     an_append_of_version_2_names_no_row(&start, &first, &unnamed);
-    let mut entries: Entries = List::new(alloc);
-    entries.push(first)?;
-    entries.push(upgrade(alloc))?;
     let upgraded = one_unnamed(alloc, 3, Some(0))?;
     let second = append_second(alloc)?;
     let end = two_rows(alloc)?;
-    rows_get_their_ids_in_order(&start, &entries, &upgraded, &second, &end);
+    rows_get_their_ids_in_order(&upgraded, &second, &end);
     Ok(())
 }

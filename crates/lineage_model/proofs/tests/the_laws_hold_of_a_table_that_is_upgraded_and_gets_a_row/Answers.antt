@@ -36,10 +36,6 @@ pub no_id_is_given_twice-requires : goal.no_id_is_given_twice-requires
 no_id_is_given_twice-requires c =
     rw (c.empty-start.ensures, c.in_ok-push-3.ensures.ok, c.in_ok-push.ensures.ok, c.new-entries.ensures, c.upgrade-upgrade.ensures, c.in_ok-last.ensures, c.in_ok-end.ensures) (record { history = both_are_history })
 
-pub rows_get_their_ids_in_order-requires-clause-history : goal.rows_get_their_ids_in_order-requires-clause-history
-rows_get_their_ids_in_order-requires-clause-history c =
-    rw (c.empty-start.ensures, c.in_ok-push.ensures.ok, c.new-entries.ensures, c.upgrade-upgrade.ensures, c.empty-upgraded.ensures) upgrade_is_history
-
 pub rows_get_their_ids_in_order-requires-clause-step : goal.rows_get_their_ids_in_order-requires-clause-step
 rows_get_their_ids_in_order-requires-clause-step c =
     rw (c.empty-upgraded.ensures, c.in_ok-last.ensures, c.in_ok-end.ensures) append_is_legal
