@@ -1,5 +1,5 @@
 -- Which rows the ids of a legal entry go to.
-use Rattle.std.proofs.Common.{◌≡◌, ◌≢◌, ℕ, ◌==◌, ℤ, Bool, true, false, ◌&&◌, List, [], AllPairs, Option, Some, None, ap, ◌∙◌, arith, if◌then◌else◌}
+use Rattle.std.proofs.Common.{◌≡◌, ◌≢◌, ℕ, ◌==◌, ℤ, Bool, true, false, not, length, eqb-true, ◌&&◌, List, [], AllPairs, Option, Some, None, ap, ◌∙◌, arith, if◌then◌else◌}
 use Rattle.std.specs.List.{slice_get}
 use Rattle.std.proofs.lemmas.Bool.{and_parts, not-false}
 use Rattle.lt_base.specs.RowMap.{row_at}
@@ -9,7 +9,7 @@ use Rattle.lt_base.specs.declared.request.Request.TheVariants.{Append, Compact, 
 use Rattle.lt_base.specs.declared.entry.Entry.{Entry}
 use Rattle.lt_base.specs.declared.state.State.{State}
 use Rattle.lineage_model.specs.Ids.{ids_of}
-use Rattle.lineage_model.specs.Step.{gives_ids, are_fresh, ids_given_by, applied, committed_to, appended_to, LegalStep}
+use Rattle.lineage_model.specs.Step.{gives_ids, broken_rule, appended, are_fresh, ids_given_by, applied, committed_to, appended_to, LegalStep}
 use Rattle.lineage_model.proofs.Cases.{by_request}
 use Rattle.lineage_model.proofs.Distinct.{distinct_from_rising}
 use Rattle.lineage_model.proofs.GoTo.{adding, GoTo, committed}
@@ -68,3 +68,17 @@ pub given_to : (before : State) (entry : Entry) (after : State) → GoTo before 
     → slice_get (ids_of entry.given) j ≡ Some id → slice_get rows j ≡ Some cells → row_at after.rows id ≡ Some (after.seq, cells)
 given_to before entry after go rows j id cells is has_id has_cells =
     go.given j id cells has_id (ap (λ request. slice_get (added request) j) is ∙ has_cells)
+
+-- an entry that gives ids gives as many as are wanted
+as_many : (gives_them : Bool) (given wanted : ℕ) → gives_them ≡ true → not (given == (if gives_them then wanted else 0)) ≡ false → given ≡ wanted
+as_many true given wanted is test = eqb-true given wanted (not-false _ test)
+as_many false given wanted is test = absurd (grind arith)
+
+-- it names as many rows as have no id
+pub as_many_named : (before : State) (entry : Entry) → broken_rule before entry ≡ None → gives_ids before entry.request ≡ true → length (ids_of entry.named) ≡ length before.unnamed
+as_many_named before entry legal is = as_many (gives_ids before entry.request) (length (ids_of entry.named)) (length before.unnamed) is (kept before entry legal).named
+
+-- and gives ids to as many as it appends
+pub as_many_given : (before : State) (entry : Entry) → broken_rule before entry ≡ None → gives_ids before entry.request ≡ true → (rows : List (List Cell)) → entry.request ≡ Append rows → length (ids_of entry.given) ≡ length rows
+as_many_given before entry legal is rows same =
+    as_many (gives_ids before entry.request) (length (ids_of entry.given)) (appended entry.request) is (kept before entry legal).given ∙ ap appended same

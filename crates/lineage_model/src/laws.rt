@@ -1,6 +1,6 @@
 //! What follows for every legal history. Each law is the contract of a function that does nothing.
 
-ghost use Rattle.std.specs.Prelude.{◌≡◌, ◌≢◌, ℕ, ℤ, true, All, List, [], ◌++◌, map, Some};
+ghost use Rattle.std.specs.Prelude.{◌≡◌, ◌≢◌, ℕ, ℤ, true, All, List, [], ◌++◌, length, map, Some};
 ghost use Rattle.std.specs.List.{AllPairs, slice_get};
 ghost use Rattle.lt_base.specs.RowMap.{UnnamedRow, row_at};
 ghost use Rattle.lt_base.specs.declared.cell.Cell.{Cell};
@@ -78,7 +78,7 @@ pub fn an_append_keeps_each_row(
 
 /// Where ids are given, the rows without id get the named ones in their order, each as it was, and
 /// the appended rows the given ones in theirs, changed last at the new sequence number. No other
-/// row differs, and none is left without an id. Iceberg spec, "Row Lineage".
+/// row differs, none is left without an id, and none is lost. Iceberg spec, "Row Lineage".
 pub fn rows_get_their_ids_in_order(before: &State, entry: &Entry, after: &State)
     requires step { LegalStep before.now entry.now after.now }
     requires gives { gives_ids before.now entry.now.request ≡ true }
@@ -94,6 +94,9 @@ pub fn rows_get_their_ids_in_order(before: &State, entry: &Entry, after: &State)
     ensures others { (id : ℤ) → All (λ given. given ≢ id) (ids_given_by entry.now)
         → row_at after.now.rows id ≡ row_at before.now.rows id }
     ensures all_named { after.now.unnamed ≡ [] }
+    ensures as_many_named { length (ids_of entry.now.named) ≡ length before.now.unnamed }
+    ensures as_many_given { (rows : List (List Cell)) → entry.now.request ≡ Append rows
+        → length (ids_of entry.now.given) ≡ length rows }
 {}
 
 /// An append in version 2 puts its rows behind those without id, changed last at the new sequence
