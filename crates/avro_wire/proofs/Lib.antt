@@ -1,3 +1,6 @@
 pub mod Groups
 pub mod Numbers
+pub mod PutSteps
 pub mod Ranges
+pub mod WritingLemmas
+pub mod BlocksLaws

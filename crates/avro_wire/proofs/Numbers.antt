@@ -20,7 +20,7 @@ answers (Err e) read gives = gives
 -- ---- groups and the high bit
 
 -- a byte with the high bit before groups makes groups again
-groups_cons : (b : ℕ) (bytes : List ℕ) → 128 ≤ b → IsGroups bytes → IsGroups (b ∷ bytes)
+pub groups_cons : (b : ℕ) (bytes : List ℕ) → 128 ≤ b → IsGroups bytes → IsGroups (b ∷ bytes)
 groups_cons b [] high groups = absurd groups
 groups_cons b (c ∷ bytes) high groups = (high, groups)
 

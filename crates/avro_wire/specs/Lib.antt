@@ -1,2 +1,4 @@
 pub mod Number
 pub mod Reading
+pub mod Blocks
+pub mod Writing

@@ -20,6 +20,13 @@ impl Model for Bytes {
 }
 
 impl Bytes {
+    /// The bytes of the list. No memory is taken.
+    pub fn from_vec(items: Vec<u8>) -> Bytes
+        ensures { result ≡ items.items }
+    {
+        Bytes { items }
+    }
+
     /// The same bytes, in memory of their own. An `Err` says that memory ran out.
     pub fn from_slice(alloc: Global, s: &[u8]) -> Result<Bytes, AllocError>
         ensures { IfOk result (λ b. b ≡ s.now) }
@@ -34,6 +41,13 @@ impl Bytes {
         ensures { result.now ≡ self.now }
     {
         self.items.as_slice()
+    }
+
+    /// The bytes as a list. No memory is taken.
+    pub fn into_vec(self) -> Vec<u8>
+        ensures { result.items ≡ self }
+    {
+        self.items
     }
 
     /// Equal bytes, in memory of their own. An `Err` says that memory ran out.

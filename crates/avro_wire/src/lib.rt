@@ -6,6 +6,7 @@
 //! | `utf8` | the test of bytes for text |
 //! | `refusal` | why an item can't be taken |
 //! | `reading` | the takes: an item at a place, and the place after it |
+//! | `writing` | the puts: an item behind the bytes that are there |
 //! | `tests` | outside values, and each public function once |
 #![tactic(auto)]
 
@@ -16,9 +17,11 @@ mod refusal;
 mod tests;
 mod text;
 mod utf8;
+mod writing;
 
 pub use bytes::Bytes;
 pub use reading::{no_prefix, take_bytes, take_int, take_long};
 pub use refusal::WireRefusal;
 pub use text::Text;
 pub use utf8::text_of;
+pub use writing::{put_bytes, put_long, reads_back};

@@ -128,6 +128,58 @@ fn bytes_that_do_not_follow_are_refused(rt: HostRuntime) {
 }
 
 #[test]
+fn a_long_is_put_as_the_standard_says(rt: HostRuntime) -> Result<(), Fail> {
+    let table: [(i64, &[u8]); 13] = [
+        (0, &[0x00]),
+        (-1, &[0x01]),
+        (1, &[0x02]),
+        (-2, &[0x03]),
+        (2, &[0x04]),
+        (63, &[0x7e]),
+        (-64, &[0x7f]),
+        (64, &[0x80, 0x01]),
+        (2_147_483_647, &[0xfe, 0xff, 0xff, 0xff, 0x0f]),
+        (-2_147_483_648, &[0xff, 0xff, 0xff, 0xff, 0x0f]),
+        (2_147_483_648, &[0x80, 0x80, 0x80, 0x80, 0x10]),
+        (
+            i64::MAX,
+            &[0xfe, 0xff, 0xff, 0xff, 0xff, 0xff, 0xff, 0xff, 0xff, 0x01],
+        ),
+        (
+            i64::MIN,
+            &[0xff, 0xff, 0xff, 0xff, 0xff, 0xff, 0xff, 0xff, 0xff, 0x01],
+        ),
+    ];
+    for (value, bytes) in table {
+        let mut out = Vec::new(rt.alloc());
+        put_long(&mut out, value)?;
+        assert_eq!(rt; out.as_slice(), bytes, "at {value}");
+    }
+    Ok(())
+}
+
+#[test]
+fn items_are_put_behind_the_bytes_that_are_there(rt: HostRuntime) -> Result<(), Fail> {
+    let mut out = vec![in rt.alloc(); 0x09]?;
+    put_bytes(&mut out, b"foo")?;
+    put_long(&mut out, 64)?;
+    put_bytes(&mut out, b"")?;
+    // The standard's own example of a string, between a byte that was there and a number.
+    let expected = [0x09, 0x06, 0x66, 0x6f, 0x6f, 0x80, 0x01, 0x00];
+    assert_eq!(rt; out.as_slice(), expected.as_slice());
+    Ok(())
+}
+
+#[test]
+fn a_refusal_names_its_place(rt: HostRuntime) -> Result<(), Fail> {
+    let short = format!(in rt.alloc(); "{}", WireRefusal::Short { place: 7 })?;
+    assert_eq!(rt; short.as_str(), "the input ends inside the item at byte 7");
+    let too_long = format!(in rt.alloc(); "{}", WireRefusal::TooLong { place: 7 })?;
+    assert_eq!(rt; too_long.as_str(), "no item can stand at byte 7");
+    Ok(())
+}
+
+#[test]
 fn a_text_keeps_its_characters(rt: HostRuntime) -> Result<(), Fail> {
     let text = Text::from_str(rt.alloc(), "snö")?;
     assert_eq!(rt; text.as_str(), "snö");
@@ -142,6 +194,8 @@ fn bytes_keep_their_values(rt: HostRuntime) -> Result<(), Fail> {
     let bytes = Bytes::from_slice(rt.alloc(), &[0, 255, 10])?;
     assert_eq!(rt; bytes.as_slice(), [0, 255, 10].as_slice());
     assert_eq!(rt; bytes.copy(rt.alloc())?.as_slice(), [0, 255, 10].as_slice());
+    let items = Bytes::from_vec(bytes.into_vec()).into_vec();
+    assert_eq!(rt; items.as_slice(), [0, 255, 10].as_slice());
     Ok(())
 }
 
