@@ -7,4 +7,6 @@ pub mod LiteralRuns
 pub mod LiteralLaws
 pub mod HexSteps
 pub mod HexLaws
+pub mod CountLaws
+pub mod HexFits
 pub mod ManyLaws

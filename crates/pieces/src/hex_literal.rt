@@ -1,6 +1,7 @@
 //! Bytes in hexadecimal.
 
-ghost use Rattle.std.specs.Prelude.{◌≡◌, ◌+◌, ◌<◌, ◌≤◌, ℕ, List, ◌∷◌, [], ◌++◌, Ok, Some, None, length, drop, slice_get, slice_index, IfOk, OnOk, IfSome, MatchOption};
+ghost use Rattle.std.specs.Prelude.{◌≡◌, ◌+◌, ◌<◌, ◌≤◌, ℕ, nat_lt, true, List, ◌∷◌, [], ◌++◌, Ok, Some, None, length, drop, slice_get, slice_index, IfOk, OnOk, IfSome, MatchOption};
+ghost use Rattle.std.specs.List.{list_all};
 ghost use Rattle.std.specs.Option.{option_and_then};
 ghost use Rattle.std.specs.String.{string_bytes};
 ghost use Rattle.words.specs.Reading.{Gives};
@@ -18,6 +19,7 @@ pub fn take_hex(alloc: Global, text: &str, place: usize) -> Result<(Bytes, usize
     requires { place ≤ length text.now }
     ensures exact { Gives is_memory (λ read. read) result (hex_at text.now place) }
     ensures within { IfOk result (λ read. (place ≤ read.1) × (read.1 ≤ length text.now)) }
+    ensures bytes { IfOk result (λ read. list_all (λ byte. nat_lt byte 256) read.0 ≡ true) }
 {
     let start = take_byte(text, place, b'x')?;
     let mut read = Vec::new(alloc);

@@ -1,6 +1,6 @@
 //! Numbers in decimal.
 
-ghost use Rattle.std.specs.Prelude.{◌≡◌, true, pos, ℕ, ◌+◌, ◌-◌, ◌*◌, ◌^◌, ◌≤◌, List, ◌++◌, length, drop, slice_get, Some, None, nat_lt, if◌then◌else◌, IfOk, OnOk};
+ghost use Rattle.std.specs.Prelude.{◌≡◌, true, pos, ℕ, ◌+◌, ◌-◌, ◌*◌, ◌^◌, ◌≤◌, ◌≤ℤ◌, List, ◌++◌, length, drop, slice_get, Some, None, nat_lt, if◌then◌else◌, IfOk, OnOk};
 ghost use Rattle.std.specs.Fmt.{decimal, signed_decimal};
 ghost use Rattle.std.specs.String.{string_bytes};
 ghost use Rattle.pieces.specs.Number.{is_digit, digits, digits_from, begins, positive_at, natural_at, negative, value_of, after_of, signed_as, signed_at, no_more, unsigned_at, count_at, long_at, any_number_at, is_absent, optional_long_at, optional_text};
@@ -65,6 +65,7 @@ pub fn take_count(text: &str, place: usize) -> Result<(i64, usize), PieceRefusal
     requires { place ≤ length text.now }
     ensures exact { result ≡ count_at text.now place }
     ensures within { IfOk result (λ read. (place ≤ read.1) × (read.1 ≤ length text.now)) }
+    ensures some { IfOk result (λ read. pos 1 ≤ℤ read.0) }
 {
     let (value, after) = no_more(positive(text.as_bytes(), place, LARGEST)?)?;
     Ok((above_zero(value), after))

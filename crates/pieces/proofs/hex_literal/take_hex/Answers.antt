@@ -1,7 +1,12 @@
+use Rattle.std.proofs.Common.{rules}
 use Rattle.std.proofs.lemmas.Result.{err_from_is_err_and}
+use Rattle.pieces.proofs.HexFits.{given_fits}
 use Rattle.pieces.proofs.hex_literal.take_hex.Goals as goal
 
 pub returns-in_err-bytes-clause-exact : goal.returns-in_err-bytes-clause-exact
 returns-in_err-bytes-clause-exact c =
     let p = err_from_is_err_and c.from_residual-in_err-bytes.result c.from_residual-in_err-bytes.ensures.1 in
     rw (p.1, p.2) tt
+
+pub returns-clause-bytes : goal.returns-clause-bytes
+returns-clause-bytes c = given_fits c.args.text.now c.args.place (c.in_ok-bytes.bytes, c.in_ok-after.after) (search rules)
