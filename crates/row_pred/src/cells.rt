@@ -1,11 +1,11 @@
 //! The cells of a row.
 
-ghost use Rattle.std.specs.Prelude.{◌≡◌, ◌≤◌, ◌++◌, true, List, length, IfOk, OnOk, Ok};
+ghost use Rattle.std.specs.Prelude.{◌≡◌, ◌≤◌, ◌++◌, List, length, IfOk, OnOk, Ok};
 ghost use Rattle.std.specs.List.{flat_map};
 ghost use Rattle.std.specs.String.{string_bytes};
 ghost use Rattle.words.specs.Reading.{Gives};
 ghost use Rattle.lt_base.specs.declared.column.Column.{Column as AColumn};
-ghost use Rattle.lt_base.specs.Fits.{fits_row, IsRow};
+ghost use Rattle.lt_base.specs.Fits.{IsRow};
 ghost use Rattle.row_pred.specs.Refusal.{is_memory};
 ghost use Rattle.row_pred.specs.Cells.{spaced_text, cells_text};
 ghost use Rattle.row_pred.specs.Cells.{next_at, cells_at, cells_of};
@@ -22,7 +22,7 @@ use std::alloc::{AllocError, Global};
 pub fn read_cells(alloc: Global, text: &str, columns: &Columns) -> Result<Cells, PredRefusal>
     ensures exact { Gives is_memory (λ cells. cells) result (cells_of columns.now text.now) }
     // What is read fits the columns.
-    ensures fits { IfOk result (λ cells. fits_row columns.now cells ≡ true) }
+    ensures fits { IfOk result (λ cells. IsRow columns.now cells) }
 {
     let (cells, after) = take_cells(alloc, text, 0, columns.as_slice())?;
     take_end(text, after)?;
@@ -52,6 +52,8 @@ pub fn take_cells(
     requires { place ≤ length text.now }
     ensures exact { Gives is_memory (λ read. read) result (cells_at columns.now text.now place) }
     ensures within { IfOk result (λ read. (place ≤ read.1) × (read.1 ≤ length text.now)) }
+    // What is read fits the columns.
+    ensures fits { IfOk result (λ read. IsRow columns.now read.0) }
 {
     let mut cells = List::new(alloc);
     let mut at = place;

@@ -3,7 +3,6 @@ use Rattle.std.proofs.lemmas.Result.{err_from_is_err_and}
 use Rattle.words.specs.Laws.{refused_for_certain}
 use Rattle.row_pred.specs.Refusal.{is_memory, of_piece}
 use Rattle.row_pred.proofs.CellsLemmas.{row_refused, row_stopped, row_whole}
-use Rattle.row_pred.proofs.FitLaws.{row_fits}
 use Rattle.row_pred.proofs.cells.read_cells.Goals as goal
 
 pub returns-in_err-cells-clause-exact : goal.returns-in_err-cells-clause-exact
@@ -20,4 +19,4 @@ pub returns-clause-exact : goal.returns-clause-exact
 returns-clause-exact c = row_whole c.as_slice.result.now c.args.columns.now c.args.text.now c.in_ok-cells.cells c.in_ok-cells.after c.as_slice.ensures.all c.in_ok-cells.ensures.exact (sym c.in_ok-take_end.ensures.exact)
 
 pub returns-clause-fits : goal.returns-clause-fits
-returns-clause-fits c = row_fits c.as_slice.result.now c.args.columns.now c.args.text.now 0 c.in_ok-cells.cells c.in_ok-cells.after c.as_slice.ensures.all c.in_ok-cells.ensures.exact
+returns-clause-fits c = rw c.as_slice.ensures.all at c.in_ok-cells.ensures.fits

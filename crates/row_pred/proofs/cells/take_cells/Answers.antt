@@ -3,6 +3,7 @@ use Rattle.std.proofs.lemmas.Result.{err_from_is_err_and}
 use Rattle.words.specs.Laws.{refused_so, refused_for_certain}
 use Rattle.row_pred.specs.Refusal.{is_memory}
 use Rattle.row_pred.proofs.CellsLemmas.{cells_on, cells_stopped, cells_refused, cells_end}
+use Rattle.row_pred.proofs.FitLaws.{cells_fit}
 use Rattle.row_pred.proofs.cells.take_cells.Goals as goal
 
 pub returns-in_err-start-clause-exact : goal.returns-in_err-start-clause-exact
@@ -24,3 +25,6 @@ loop-column-preserved c = record {
 
 pub returns-clause-exact : goal.returns-clause-exact
 returns-clause-exact c = cells_end c.loop-column.cells c.args.columns.now c.args.text.now c.loop-column.column-index c.loop-column.at _ c.loop-column-test.false c.loop-column.invariant.so_far
+
+pub returns-clause-fits : goal.returns-clause-fits
+returns-clause-fits c = cells_fit c.args.columns.now c.args.text.now c.args.place (c.loop-column.cells, c.loop-column.at) (cells_end c.loop-column.cells c.args.columns.now c.args.text.now c.loop-column.column-index c.loop-column.at _ c.loop-column-test.false c.loop-column.invariant.so_far)
