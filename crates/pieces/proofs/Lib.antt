@@ -10,3 +10,5 @@ pub mod HexLaws
 pub mod CountLaws
 pub mod HexFits
 pub mod ManyLaws
+pub mod ManyFits
+pub mod ReadLaws
