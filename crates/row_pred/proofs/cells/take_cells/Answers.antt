@@ -1,6 +1,10 @@
-use Rattle.std.proofs.Common.{arith, sym}
+use Rattle.std.proofs.Common.{ℕ, List, arith, sym}
 use Rattle.std.proofs.lemmas.Result.{err_from_is_err_and}
 use Rattle.words.specs.Laws.{refused_so, refused_for_certain}
+use Rattle.lt_base.specs.declared.cell.Cell.{Cell}
+use Rattle.lt_base.specs.Fits.{IsRow}
+use Rattle.pieces.proofs.ReadLaws.{of_read}
+use Rattle.row_pred.specs.Cells.{cells_at}
 use Rattle.row_pred.specs.Refusal.{is_memory}
 use Rattle.row_pred.proofs.CellsLemmas.{cells_on, cells_stopped, cells_refused, cells_end}
 use Rattle.row_pred.proofs.FitLaws.{cells_fit}
@@ -27,4 +31,4 @@ pub returns-clause-exact : goal.returns-clause-exact
 returns-clause-exact c = cells_end c.loop-column.cells c.args.columns.now c.args.text.now c.loop-column.column-index c.loop-column.at _ c.loop-column-test.false c.loop-column.invariant.so_far
 
 pub returns-clause-fits : goal.returns-clause-fits
-returns-clause-fits c = cells_fit c.args.columns.now c.args.text.now c.args.place (c.loop-column.cells, c.loop-column.at) (cells_end c.loop-column.cells c.args.columns.now c.args.text.now c.loop-column.column-index c.loop-column.at _ c.loop-column-test.false c.loop-column.invariant.so_far)
+returns-clause-fits c = of_read (λ (read : List Cell × ℕ). IsRow c.args.columns.now read.0) (cells_at c.args.columns.now c.args.text.now c.args.place) (c.loop-column.cells, c.loop-column.at) (cells_end c.loop-column.cells c.args.columns.now c.args.text.now c.loop-column.column-index c.loop-column.at _ c.loop-column-test.false c.loop-column.invariant.so_far) (cells_fit c.args.columns.now c.args.text.now c.args.place)
