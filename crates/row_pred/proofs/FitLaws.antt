@@ -16,7 +16,7 @@ use Rattle.pieces.specs.Number.{any_number_at}
 use Rattle.pieces.specs.Literal.{literal_at}
 use Rattle.pieces.specs.HexLiteral.{hex_at}
 use Rattle.pieces.proofs.HexFits.{hex_fits}
-use Rattle.pieces.proofs.ReadLaws.{if_read, if_viewed, if_renamed, if_then, if_chosen}
+use Rattle.pieces.proofs.ReadLaws.{if_read, if_any, if_viewed, if_renamed, if_then, if_chosen, if_passed, if_failed}
 use Rattle.row_pred.specs.declared.refusal.PredRefusal.TheVariants.{Misfit, NotNull}
 use Rattle.row_pred.specs.Refusal.{of_piece}
 use Rattle.row_pred.specs.Cell.{cell_words, word_cell, begins_number, any_cell_at, fitted, cell_at}
@@ -52,24 +52,14 @@ any_real input place =
 abbrev pub MayStand : Column → Cell × ℕ → Type 0
 MayStand column cell = (fits column cell.0 ≡ true) × (has_real_bytes cell.0 ≡ true)
 
--- where a test is passed, what was tested is read
-passed : {X E : Type 0} (P : X → Type 0) (test : Bool) (x : X) (refusal : E) → (test ≡ true → P x) → IfOk (if test then Ok x else Err refusal) P
-passed P true x refusal h = h refl
-passed P false x refusal h = tt
-
--- where it fails, too
-failed : {X E : Type 0} (P : X → Type 0) (test : Bool) (x : X) (refusal : E) → (test ≡ false → P x) → IfOk (if test then Err refusal else Ok x) P
-failed P true x refusal h = tt
-failed P false x refusal h = h refl
-
 -- what is read for a column may stand in it
 fitted_fits : (column : Column) (place : ℕ) (read : Option Cell × ℕ) → IsReal read → IfOk (fitted column place read) (MayStand column)
 fitted_fits column place (None, after) real = tt
-fitted_fits column place (Some Null, after) real = failed (MayStand column) column.required (Null, after) (NotNull column.id) (λ free. (ap not free, refl))
-fitted_fits column place (Some (Flag flag), after) real = passed (MayStand column) (fits column (Flag flag)) (Flag flag, after) (Misfit place) (λ fit. (fit, refl))
-fitted_fits column place (Some (Num number), after) real = passed (MayStand column) (fits column (Num number)) (Num number, after) (Misfit place) (λ fit. (fit, refl))
-fitted_fits column place (Some (Text text), after) real = passed (MayStand column) (fits column (Text text)) (Text text, after) (Misfit place) (λ fit. (fit, refl))
-fitted_fits column place (Some (Bytes bytes), after) real = passed (MayStand column) (fits column (Bytes bytes)) (Bytes bytes, after) (Misfit place) (λ fit. (fit, real))
+fitted_fits column place (Some Null, after) real = if_failed (MayStand column) column.required (Null, after) (NotNull column.id) (λ free. (ap not free, refl))
+fitted_fits column place (Some (Flag flag), after) real = if_passed (MayStand column) (fits column (Flag flag)) (Flag flag, after) (Misfit place) (λ fit. (fit, refl))
+fitted_fits column place (Some (Num number), after) real = if_passed (MayStand column) (fits column (Num number)) (Num number, after) (Misfit place) (λ fit. (fit, refl))
+fitted_fits column place (Some (Text text), after) real = if_passed (MayStand column) (fits column (Text text)) (Text text, after) (Misfit place) (λ fit. (fit, refl))
+fitted_fits column place (Some (Bytes bytes), after) real = if_passed (MayStand column) (fits column (Bytes bytes)) (Bytes bytes, after) (Misfit place) (λ fit. (fit, real))
 
 -- a cell of a column may stand in it
 pub cell_fits : (column : Column) (input : List ℕ) (place : ℕ) → IfOk (cell_at column input place) (MayStand column)
@@ -98,7 +88,7 @@ pub cells_fit_behind : (columns : List Column) (read : List Cell) (input : List 
 unfolding cells_from fits_row
 cells_fit_behind [] read input place = ([], sym (append-nil read), (refl, refl))
 cells_fit_behind (column ∷ columns) read input place =
-    if_then (λ _. Unit {0}) (IsRowBehind read (column ∷ columns)) (next_at read input place) (λ start. cell_at column input start >>= λ cell. cells_from (read ++ cell.0 ∷ []) columns input cell.1) (if_read _ (next_at read input place) (λ start is. tt)) (λ start _.
+    if_then (λ _. Unit {0}) (IsRowBehind read (column ∷ columns)) (next_at read input place) (λ start. cell_at column input start >>= λ cell. cells_from (read ++ cell.0 ∷ []) columns input cell.1) (if_any (next_at read input place)) (λ start _.
     if_then (MayStand column) (IsRowBehind read (column ∷ columns)) (cell_at column input start) (λ cell. cells_from (read ++ cell.0 ∷ []) columns input cell.1) (cell_fits column input start) (λ cell may.
     IfOk-weaker (cells_from (read ++ cell.0 ∷ []) columns input cell.1) (IsRowBehind (read ++ cell.0 ∷ []) columns) (IsRowBehind read (column ∷ columns)) (λ cells. behind_cell read column columns cell cells may) (cells_fit_behind columns (read ++ cell.0 ∷ []) input cell.1)))
 
