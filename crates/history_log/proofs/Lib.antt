@@ -9,5 +9,7 @@ pub mod RequestSteps
 pub mod RequestLaws
 mod RunsLemmas
 mod RunsLaws
+mod RunsFits
+pub mod RequestFits
 mod EntryLemmas
 pub mod EntryLaws

@@ -4,7 +4,7 @@ ghost use Rattle.std.specs.Prelude.{◌≡◌, ◌≤◌, ◌++◌, List, length
 ghost use Rattle.std.specs.String.{string_bytes};
 ghost use Rattle.words.specs.Reading.{Gives};
 ghost use Rattle.lt_base.specs.declared.column.Column.{Column as AColumn};
-ghost use Rattle.lt_base.specs.Fits.{FitsEntry};
+ghost use Rattle.lt_base.specs.Fits.{AreRuns, FitsEntry};
 ghost use Rattle.history_log.specs.Refusal.{is_memory};
 ghost use Rattle.history_log.specs.Entry.{before_gap, entry_of, entry_text};
 ghost use Rattle.history_log.specs.EntryParts.{numbers_text, ids_text, start_at, numbers_at, ids_at};
@@ -23,6 +23,8 @@ use std::alloc::{AllocError, Global};
 /// The entry that the text is, for a table of these columns. docs/FORMATS.md, "Entries".
 pub fn read_entry(alloc: Global, text: &str, columns: &Columns) -> Result<Entry, HistoryRefusal>
     ensures exact { Gives is_memory (λ entry. entry) result (entry_of columns.now text.now) }
+    // What is read is about a table of these columns.
+    ensures fits { IfOk result (λ entry. FitsEntry columns.now entry) }
 {
     let (who, seq, next, place) = take_numbers(text)?;
     let (named, given, place) = take_ids(alloc, text, place)?;
@@ -79,6 +81,7 @@ fn take_ids(alloc: Global, text: &str, place: usize) -> Result<(Runs, Runs, usiz
     requires { place ≤ length text.now }
     ensures exact { Gives is_memory (λ read. read) result (ids_at text.now place) }
     ensures within { IfOk result (λ read. read.2 ≤ length text.now) }
+    ensures fits { IfOk result (λ read. AreRuns read.0 × AreRuns read.1) }
 {
     let (named, at) = before_gap(text, take_runs(alloc, text, place))?;
     let (given, after) = before_gap(text, take_runs(alloc, text, at))?;

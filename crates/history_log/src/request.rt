@@ -25,6 +25,8 @@ const WORDS: [&str; 3] = ["append", "compact", "upgrade"];
 /// The request that the text is, for a table of these columns. docs/FORMATS.md, "Requests".
 pub fn read_request(alloc: Global, text: &str, columns: &Columns) -> Result<Request, HistoryRefusal>
     ensures exact { Gives is_memory (λ request. request) result (request_of columns.now text.now) }
+    // What is read is about a table of these columns.
+    ensures fits { IfOk result (λ request. FitsRequest columns.now request) }
 {
     take_request(alloc, text, 0, columns)
 }
@@ -51,6 +53,8 @@ pub fn take_request(
     requires { place ≤ length text.now }
     ensures exact { Gives is_memory (λ request. request) result
         (request_at columns.now text.now place) }
+    // What is read is about a table of these columns.
+    ensures fits { IfOk result (λ request. FitsRequest columns.now request) }
 {
     let (index, after) = take_one_of(text, place, &WORDS)?;
     take_behind(alloc, text, after, index, columns.as_slice())

@@ -1,10 +1,11 @@
 //! Runs of ids in a text.
 
-ghost use Rattle.std.specs.Prelude.{◌≡◌, ◌≤◌, ◌<◌, ◌++◌, ◌+ℤ◌, length, IfOk, OnOk};
+ghost use Rattle.std.specs.Prelude.{◌≡◌, ◌≤◌, ◌<◌, ◌++◌, ◌+ℤ◌, false, length, IfOk, OnOk};
 ghost use Rattle.std.specs.List.{flat_map};
 ghost use Rattle.std.specs.Ordering.{int_eq};
 ghost use Rattle.std.specs.String.{string_bytes};
 ghost use Rattle.words.specs.Reading.{Gives};
+ghost use Rattle.lt_base.specs.Fits.{IsRun, AreRuns};
 ghost use Rattle.pieces.specs.Refusal.{is_memory as is_memory_of_piece};
 ghost use Rattle.history_log.specs.Runs.{run_text, next_run_text, runs_text, goes_on, may_grow, stop_of, stop_past, first_at, plus_at, run_at, runs_at};
 
@@ -20,6 +21,8 @@ pub fn take_runs(alloc: Global, text: &str, place: usize) -> Result<(Runs, usize
     requires { place ≤ length text.now }
     ensures exact { Gives is_memory_of_piece (λ read. read) result (runs_at text.now place) }
     ensures within { IfOk result (λ read. (place ≤ read.1) × (read.1 ≤ length text.now)) }
+    // What is read are runs in their one spelling.
+    ensures fits { IfOk result (λ read. AreRuns read.0) }
 {
     if is_absent(text.as_bytes(), place) {
         return Ok((List::new(alloc), place + 1));
@@ -52,6 +55,8 @@ fn take_run(text: &str, place: usize, read: &[Run]) -> Result<(Run, usize), Piec
     requires { place ≤ length text.now }
     ensures exact { result ≡ run_at text.now read.now place }
     ensures within { IfOk result (λ run. (place ≤ run.1) × (run.1 ≤ length text.now)) }
+    ensures fits { IfOk result (λ run. IsRun run.0) }
+    ensures apart { IfOk result (λ run. goes_on read.now run.0.first ≡ false) }
 {
     let (first, after) = take_first(text, place, read)?;
     let start = take_plus(text, after, read, first)?;
@@ -90,6 +95,7 @@ fn take_plus(text: &str, place: usize, read: &[Run], first: i64) -> Result<usize
     requires { place ≤ length text.now }
     ensures exact { result ≡ plus_at read.now first text.now place }
     ensures within { IfOk result (λ start. (place < start) × (start ≤ length text.now)) }
+    ensures apart { IfOk result (λ start. goes_on read.now first ≡ false) }
 {
     if goes_on(read, first) {
         return Err(PieceRefusal::Syntax {

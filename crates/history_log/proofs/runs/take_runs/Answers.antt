@@ -8,6 +8,7 @@ use Rattle.pieces.specs.Number.{is_absent}
 use Rattle.pieces.proofs.WordLemmas.{is_this_within}
 use Rattle.history_log.specs.Runs.{run_at}
 use Rattle.history_log.proofs.RunsLemmas.{run_behind, no_runs, runs_begin, runs_on, runs_done, runs_refused, absent_within}
+use Rattle.history_log.proofs.RunsFits.{more_runs}
 use Rattle.history_log.proofs.runs.take_runs.Goals as goal
 
 pub returns-then-is_absent-clause-exact : goal.returns-then-is_absent-clause-exact
@@ -27,6 +28,7 @@ loop-runs-init c =
     record {
       start = omega arith;
       within = c.requires;
+      fits = rw c.new-runs.ensures tt;
       so_far = rw c.new-runs.ensures (runs_begin c.args.text.now c.args.place there);
     }
 
@@ -50,5 +52,9 @@ loop-runs-preserved c =
     record {
       start = omega (arith, c.loop-runs.invariant.start, c.in_ok-run.ensures.within);
       within = omega arith;
+      fits = more_runs c.loop-runs.runs c.as_slice.result.now c.push.new.self c.in_ok-run.run' c.loop-runs.invariant.fits c.as_slice.ensures c.in_ok-run.ensures.fits c.in_ok-run.ensures.apart c.in_ok-push.ensures.ok;
       so_far = rw c.in_ok-push.ensures.ok (runs_on c.args.text.now c.loop-runs.runs c.loop-runs.at c.in_ok-run.after c.in_ok-run.run' _ c.loop-runs.invariant.so_far c.loop-runs.invariant.within c.in_ok-run.ensures.within.0 one comma);
     }
+
+pub returns-then-not-stands-clause-fits : goal.returns-then-not-stands-clause-fits
+returns-then-not-stands-clause-fits c = more_runs c.loop-runs.runs c.as_slice.result.now c.push.new.self c.in_ok-run.run' c.loop-runs.invariant.fits c.as_slice.ensures c.in_ok-run.ensures.fits c.in_ok-run.ensures.apart c.in_ok-push.ensures.ok

@@ -1,4 +1,5 @@
 use Rattle.std.proofs.Common.{◌≤◌, ◌-◌, length}
+use Rattle.lt_base.specs.Fits.{AreRuns}
 use Rattle.history_log.specs.Runs.{runs_at}
 use Rattle.history_log.proofs.RunsLemmas.{RunsFrom}
 use Rattle.history_log.proofs.runs.take_runs.Given as goal
@@ -7,6 +8,7 @@ abbrev pub invariant-loop-runs : goal.invariant-loop-runs
 invariant-loop-runs l = record {
   start : l.place ≤ l.at;
   within : l.at ≤ length l.text;
+  fits : AreRuns l.runs;
   so_far : RunsFrom l.text l.runs l.at (runs_at l.text l.place);
 }
 
