@@ -1,4 +1,3 @@
-mod Accepted
 mod SchemaLemmas
 mod RowsLemmas
 mod ReportLemmas

@@ -13,7 +13,7 @@ use Rattle.lt_base.specs.declared.column.Kind.{Kind}
 use Rattle.lt_base.specs.declared.column.Kind.TheVariants as kinds
 use Rattle.lt_base.specs.Columns.{IsColumns}
 use Rattle.lt_base.specs.Fits.{is_int}
-use Rattle.report.proofs.Accepted.{not_refused}
+use Rattle.lt_base.proofs.ColumnsLemmas.{not_refused}
 use Rattle.pieces.specs.declared.refusal.PieceRefusal.{PieceRefusal}
 use Rattle.pieces.specs.Word.{spaces, one_of, gap_at}
 use Rattle.pieces.specs.Literal.{literal_text}
