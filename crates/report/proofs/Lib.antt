@@ -1,5 +1,6 @@
 mod SchemaLemmas
 mod RowsLemmas
+mod FitsLemmas
 mod ReportLemmas
 pub mod PrintedColumns
 pub mod PrintedLines

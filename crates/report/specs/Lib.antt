@@ -4,4 +4,5 @@ pub mod Schema
 pub mod Rows
 pub mod Lines
 pub mod Report
+pub mod Fits
 pub mod Printed

@@ -1,10 +1,11 @@
 //! One line behind those that were read.
 
-ghost use Rattle.std.specs.Prelude.{◌≡◌};
+ghost use Rattle.std.specs.Prelude.{◌≡◌, IfOk};
 ghost use Rattle.words.specs.Reading.{Gives};
 ghost use Rattle.lt_base.specs.RowMap.{row_at};
 ghost use Rattle.report.specs.Refusal.{is_memory};
 ghost use Rattle.report.specs.Rows.{joined, put_at as put_row_at};
+ghost use Rattle.report.specs.Fits.{FitsReport, FitsStage};
 ghost use Rattle.report.specs.Lines.{first_state as a_first_state, entry_line, row_line as a_row_line, body_line as a_body_line, reply_line as a_reply_line, line_read};
 
 use crate::refusal::LineRefusal;
@@ -45,7 +46,8 @@ pub enum Stage {
 /// What was read with one line more.
 #[tactic(auto, unfolding(crate::specs::Lines::line_read))]
 pub fn read_line(alloc: Global, stage: Stage, line: &[u8]) -> Result<Stage, LineRefusal>
-    ensures { Gives is_memory (λ stage. stage) result (line_read stage line.now) }
+    ensures exact { Gives is_memory (λ stage. stage) result (line_read stage line.now) }
+    ensures fits { FitsStage stage → IfOk result FitsStage }
 {
     if let Stage::Ended(report) = stage {
         return reply_line(report, line);
@@ -62,7 +64,8 @@ pub fn read_line(alloc: Global, stage: Stage, line: &[u8]) -> Result<Stage, Line
 
 /// The line behind that of the columns.
 fn first_state(alloc: Global, columns: Columns, text: &str) -> Result<Stage, LineRefusal>
-    ensures { Gives is_memory (λ stage. stage) result (a_first_state columns text.now) }
+    ensures exact { Gives is_memory (λ stage. stage) result (a_first_state columns text.now) }
+    ensures fits { IfOk result FitsStage }
 {
     let start = start_line(alloc, text)?;
     Ok(Stage::Body(Report {
@@ -74,7 +77,8 @@ fn first_state(alloc: Global, columns: Columns, text: &str) -> Result<Stage, Lin
 
 /// A line behind the end: bytes of any kind behind the word.
 fn reply_line(report: Report, line: &[u8]) -> Result<Stage, LineRefusal>
-    ensures { result ≡ a_reply_line report line.now }
+    ensures exact { result ≡ a_reply_line report line.now }
+    ensures fits { FitsReport report → IfOk result FitsStage }
 {
     if line.starts_with(b"reply ") {
         Ok(Stage::Ended(report))
@@ -85,7 +89,8 @@ fn reply_line(report: Report, line: &[u8]) -> Result<Stage, LineRefusal>
 
 /// A line between the state at the start and the end.
 fn body_line(alloc: Global, report: Report, text: &str) -> Result<Stage, LineRefusal>
-    ensures { Gives is_memory (λ stage. stage) result (a_body_line report text.now) }
+    ensures exact { Gives is_memory (λ stage. stage) result (a_body_line report text.now) }
+    ensures fits { FitsReport report → IfOk result FitsStage }
 {
     if text == "end" {
         Ok(Stage::Ended(report))
@@ -98,8 +103,9 @@ fn body_line(alloc: Global, report: Report, text: &str) -> Result<Stage, LineRef
 
 /// The line of a row, which stands before all entries.
 fn add_row(alloc: Global, report: Report, text: &str) -> Result<Stage, LineRefusal>
-    ensures { Gives is_memory (λ stage. stage) result
+    ensures exact { Gives is_memory (λ stage. stage) result
         (a_row_line report report.entries text.now) }
+    ensures fits { FitsReport report → IfOk result FitsStage }
 {
     let Report {
         columns,
@@ -143,7 +149,8 @@ fn put_at(mut state: State, id: i64, last: i64, cells: Cells) -> Result<State, L
 
 /// The line of an entry.
 fn add_entry(alloc: Global, report: Report, text: &str) -> Result<Stage, LineRefusal>
-    ensures { Gives is_memory (λ stage. stage) result (entry_line report text.now) }
+    ensures exact { Gives is_memory (λ stage. stage) result (entry_line report text.now) }
+    ensures fits { FitsReport report → IfOk result FitsStage }
 {
     let Report {
         columns,
