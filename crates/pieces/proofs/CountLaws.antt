@@ -16,7 +16,7 @@ digits_grow most value [] place number after e = let same : value ≡ number = c
 digits_grow most value (byte ∷ rest) place number after e =
     elim (cases_Bool (is_digit byte)) [
       | inl is ↦ elim (cases_Bool (nat_lt most (value * 10 + (byte - 48)))) [
-        | inl over ↦ let none : Over place (place + 1 + digits rest) ≡ Within number after = rw (is, over) at e in absurd cc
+        | inl over ↦ let none : Over value place (place + 1 + digits rest) ≡ Within number after = rw (is, over) at e in absurd cc
         | inr within ↦
             let next : digits_from most (value * 10 + (byte - 48)) rest (place + 1) ≡ Within number after = rw (is, within) at e in
             let more = digits_grow most (value * 10 + (byte - 48)) rest (place + 1) number after next in
@@ -36,7 +36,7 @@ from_first most first rest place number after there e =
     let above : 48 < first = ltb-true 48 first parts.0 in
     let is : is_digit first ≡ true = and_from _ _ (lt-ltb 47 first (omega arith)) parts.1 in
     elim (cases_Bool (nat_lt most (0 * 10 + (first - 48)))) [
-      | inl over ↦ let none : Over place (place + 1 + digits rest) ≡ Within number after = rw (is, over) at e in absurd cc
+      | inl over ↦ let none : Over 0 place (place + 1 + digits rest) ≡ Within number after = rw (is, over) at e in absurd cc
       | inr within ↦
           let next : digits_from most (0 * 10 + (first - 48)) rest (place + 1) ≡ Within number after = rw (is, within) at e in
           let more = digits_grow most (0 * 10 + (first - 48)) rest (place + 1) number after next in
@@ -52,7 +52,7 @@ from_there most (byte ∷ rest) (suc at) place number after there e = from_there
 -- a number of them is at least 1
 some_of : (made : Digits) → ((number after : ℕ) → made ≡ Within number after → 1 ≤ number) → IfOk (map_value (λ read. (pos read.0, read.1)) (no_more made)) (λ (read : ℤ × ℕ). pos 1 ≤ℤ read.0)
 some_of (Within number after) h = let some : 1 ≤ number = h number after refl in omega (arith, ints)
-some_of (Over stop after) h = tt
+some_of (Over value stop after) h = tt
 
 -- a count is at least 1
 pub count_some : (input : List ℕ) (place : ℕ) → IfOk (count_at input place) (λ read. pos 1 ≤ℤ read.0)
