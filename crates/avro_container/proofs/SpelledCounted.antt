@@ -4,9 +4,10 @@ use Rattle.std.proofs.lemmas.Bool.{ltb-false, le-ltb, ne_eqb}
 use Rattle.std.proofs.lemmas.List.{length-append}
 use Rattle.words.specs.Grammar.{Joined}
 use Rattle.avro_wire.specs.Number.{long, SpellsNumber}
+use Rattle.avro_wire.specs.Blocks.{SpellsItems, IsCounted}
 use Rattle.avro_container.specs.declared.refusal.ContainerRefusal.TheVariants.{Header}
 use Rattle.avro_container.specs.Header.{Pair, most_pairs, is_natural, map_number_at, pairs_at, counted_at, map_block_at}
-use Rattle.avro_container.specs.Format.{SpellsPairs, IsCounted}
+use Rattle.avro_container.specs.Format.{SpellsPair}
 use Rattle.avro_container.proofs.Parts.{drop_behind, took_then, took_as}
 use Rattle.avro_container.proofs.Steps.{test_failed}
 use Rattle.avro_container.proofs.SpelledNumber.{map_number_took, map_number_again}
@@ -15,11 +16,11 @@ use Rattle.avro_container.proofs.Keys.{IsSoFar}
 use Rattle.avro_container.proofs.MapBlock.{SpellsMapBlock, BlockTook, BlockAgain}
 
 -- its bytes, of one that tells its count alone
-counted_is : (n : ℕ) (more : List Pair) (bytes : List ℕ) → length more ≡ n → is_natural (pos n) 0 ≡ false → Joined (λ front. SpellsNumber long front (pos n)) (SpellsPairs more) bytes → SpellsMapBlock more bytes
+counted_is : (n : ℕ) (more : List Pair) (bytes : List ℕ) → length more ≡ n → is_natural (pos n) 0 ≡ false → Joined (λ front. SpellsNumber long front (pos n)) (SpellsItems SpellsPair more) bytes → SpellsMapBlock more bytes
 counted_is zero more bytes many some parts = absurd cc
 counted_is (suc n) more bytes many some parts = inl (record {
   some = omega arith;
-  parts = subst (λ (k : ℕ). Joined (λ front. SpellsNumber long front (pos k)) (SpellsPairs more) bytes) (sym many) parts;
+  parts = subst (λ (k : ℕ). Joined (λ front. SpellsNumber long front (pos k)) (SpellsItems SpellsPair more) bytes) (sym many) parts;
 })
 
 -- what is read is spelled so
@@ -38,7 +39,7 @@ counted_took place n pairs input start taken number some read kept =
     }
 
 -- what is spelled so is read, whatever follows
-pub counted_again : (place : ℕ) (pairs : List Pair) (input bytes rest : List ℕ) (more : List Pair) → drop place input ≡ bytes ++ rest → IsCounted more bytes → IsSoFar (pairs ++ more) → length pairs + length more ≤ most_pairs
+pub counted_again : (place : ℕ) (pairs : List Pair) (input bytes rest : List ℕ) (more : List Pair) → drop place input ≡ bytes ++ rest → IsCounted SpellsPair more bytes → IsSoFar (pairs ++ more) → length pairs + length more ≤ most_pairs
     → BlockAgain place pairs input bytes more
 unfolding map_block_at counted_at
 counted_again place pairs input bytes rest more parts block kept few =

@@ -4,11 +4,11 @@ use Rattle.std.proofs.lemmas.Bool.{ltb-false, le-ltb}
 use Rattle.std.proofs.lemmas.List.{length-drop, length-append, length-take-le, take-append-drop}
 use Rattle.words.specs.Grammar.{Joined}
 use Rattle.avro_wire.specs.Number.{long, SpellsNumber}
+use Rattle.avro_wire.specs.Blocks.{SpellsBytes}
 use Rattle.avro_wire.specs.Reading.{number_at, range_behind, bytes_at}
 use Rattle.avro_wire.proofs.Ranges.{bytes_again}
 use Rattle.avro_container.specs.Refusal.{header_refusal}
 use Rattle.avro_container.specs.Header.{item_at, part_at}
-use Rattle.avro_container.specs.Format.{SpellsBytes}
 use Rattle.avro_container.proofs.Parts.{Took, drop_behind, range_is, took_then, took_as}
 use Rattle.avro_container.proofs.Steps.{bind_then, map_ok, test_failed, ok_is}
 use Rattle.avro_container.proofs.SpelledNumber.{number_took}

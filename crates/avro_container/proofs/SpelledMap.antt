@@ -2,8 +2,9 @@
 use Rattle.std.proofs.Common.{◌≡◌, ℕ, zero, suc, ◌+◌, ◌-◌, ◌<◌, ◌≤◌, ℤ, pos, List, [], ◌∷◌, ◌++◌, length, drop, Ok, inl, inr, refl, sym, ap, subst, ◌∙◌, append_assoc, arith}
 use Rattle.std.specs.List.{flat_map}
 use Rattle.std.proofs.lemmas.List.{length-append, append-nil}
+use Rattle.avro_wire.specs.Blocks.{SpellsBlocks}
 use Rattle.avro_container.specs.Header.{Pair, most_pairs, is_natural, map_number_at, map_block_at, map_at}
-use Rattle.avro_container.specs.Format.{SpellsBlocksOfPairs}
+use Rattle.avro_container.specs.Format.{SpellsPair}
 use Rattle.avro_container.proofs.Parts.{Took, drop_behind, took_then, took_moves}
 use Rattle.avro_container.proofs.Steps.{bind_then, cond_is, ok_is}
 use Rattle.avro_container.proofs.SpelledNumber.{number_some, map_number_took, map_number_again}
@@ -19,7 +20,7 @@ pairs_of blocks = flat_map (λ pairs. pairs) blocks
 pub record MapTook (pairs : List Pair) (input : List ℕ) (place : ℕ) (taken : List Pair × ℕ) : Type 0 where
   pub blocks : List (List Pair)
   pub grown : taken.0 ≡ pairs ++ pairs_of blocks
-  pub took : Took input place taken.1 (SpellsBlocksOfPairs blocks)
+  pub took : Took input place taken.1 (SpellsBlocks SpellsPair blocks)
   pub kept : IsSoFar taken.0
   pub few : length taken.0 ≤ most_pairs
 
@@ -56,7 +57,7 @@ map_took (suc tries) pairs input place taken read enough kept few =
     ])
 
 -- what is spelled so is read, whatever follows
-pub map_again : (blocks : List (List Pair)) (tries : ℕ) (pairs : List Pair) (input : List ℕ) (place : ℕ) (bytes rest : List ℕ) → drop place input ≡ bytes ++ rest → SpellsBlocksOfPairs blocks bytes → length bytes ≤ tries
+pub map_again : (blocks : List (List Pair)) (tries : ℕ) (pairs : List Pair) (input : List ℕ) (place : ℕ) (bytes rest : List ℕ) → drop place input ≡ bytes ++ rest → SpellsBlocks SpellsPair blocks bytes → length bytes ≤ tries
     → IsSoFar (pairs ++ pairs_of blocks) → length (pairs ++ pairs_of blocks) ≤ most_pairs → map_at tries pairs input place ≡ Ok (pairs ++ pairs_of blocks, place + length bytes)
 unfolding map_at
 map_again [] zero pairs input place bytes rest parts spelled enough kept few = absurd (omega (arith, number_some bytes (pos 0) spelled))

@@ -2,8 +2,9 @@
 use Rattle.std.proofs.Common.{◌≡◌, ℕ, zero, suc, ◌+◌, List, [], ◌∷◌, ◌++◌, length, drop, Ok, refl, sym, ap, subst, ◌∙◌, append_assoc, arith}
 use Rattle.std.proofs.lemmas.List.{length-append, append-nil}
 use Rattle.words.specs.Reading.{◌>>=◌, repeated}
+use Rattle.avro_wire.specs.Blocks.{SpellsItems}
 use Rattle.avro_container.specs.Header.{Pair, pair_at, next_pair, pairs_at}
-use Rattle.avro_container.specs.Format.{SpellsPairs}
+use Rattle.avro_container.specs.Format.{SpellsPair}
 use Rattle.avro_container.proofs.Parts.{Took, drop_behind, took_then, took_nothing}
 use Rattle.avro_container.proofs.Steps.{bind_then, ok_is}
 use Rattle.avro_container.proofs.Keys.{IsSoFar, so_far_next}
@@ -14,7 +15,7 @@ pub record PairsTook (count : ℕ) (pairs : List Pair) (input : List ℕ) (place
   pub more : List Pair
   pub many : length more ≡ count
   pub grown : taken.0 ≡ pairs ++ more
-  pub took : Took input place taken.1 (SpellsPairs more)
+  pub took : Took input place taken.1 (SpellsItems SpellsPair more)
   pub kept : IsSoFar taken.0
 
 -- what is read is spelled so
@@ -36,7 +37,7 @@ pairs_took (suc count) pairs input place taken read kept =
     })
 
 -- what is spelled so is read, whatever follows
-pub pairs_again : (more pairs : List Pair) (input : List ℕ) (place : ℕ) (bytes rest : List ℕ) → drop place input ≡ bytes ++ rest → SpellsPairs more bytes → IsSoFar (pairs ++ more)
+pub pairs_again : (more pairs : List Pair) (input : List ℕ) (place : ℕ) (bytes rest : List ℕ) → drop place input ≡ bytes ++ rest → SpellsItems SpellsPair more bytes → IsSoFar (pairs ++ more)
     → pairs_at (length more) pairs input place ≡ Ok (pairs ++ more, place + length bytes)
 unfolding pairs_at
 pairs_again [] pairs input place bytes rest parts spelled kept =

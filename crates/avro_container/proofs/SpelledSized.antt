@@ -4,9 +4,10 @@ use Rattle.std.proofs.lemmas.Bool.{eq-eqb, ltb-false, le-ltb}
 use Rattle.std.proofs.lemmas.List.{length-append}
 use Rattle.words.specs.Grammar.{Joined}
 use Rattle.avro_wire.specs.Number.{long, SpellsNumber}
+use Rattle.avro_wire.specs.Blocks.{SpellsItems, IsSized}
 use Rattle.avro_container.specs.declared.refusal.ContainerRefusal.TheVariants.{Header}
 use Rattle.avro_container.specs.Header.{Pair, most_pairs, is_natural, map_number_at, pairs_at, sized_at, map_block_at}
-use Rattle.avro_container.specs.Format.{SpellsPairs, IsSized}
+use Rattle.avro_container.specs.Format.{SpellsPair}
 use Rattle.avro_container.proofs.Parts.{drop_behind, took_then, took_as, took_sized}
 use Rattle.avro_container.proofs.Steps.{bind_then, test_passed, test_failed, ok_is}
 use Rattle.avro_container.proofs.SpelledNumber.{map_number_took, map_number_again}
@@ -16,20 +17,20 @@ use Rattle.avro_container.proofs.MapBlock.{SpellsMapBlock, is_natural_is, BlockT
 
 -- its bytes, of one that tells its size
 sized_is : (n : ℕ) (more : List Pair) (first after : ℕ) (size : ℤ) (bytes : List ℕ) → length more ≡ suc n → size ≡ pos (after - first)
-    → Joined (λ front. SpellsNumber long front (negsuc n)) (Joined (λ front. SpellsNumber long front size) (λ items. (after ≡ first + length items) × SpellsPairs more items)) bytes → SpellsMapBlock more bytes
+    → Joined (λ front. SpellsNumber long front (negsuc n)) (Joined (λ front. SpellsNumber long front size) (λ items. (after ≡ first + length items) × SpellsItems SpellsPair more items)) bytes → SpellsMapBlock more bytes
 sized_is n more first after size bytes many true_size joined =
     let inner = joined.second in
     let same : after - first ≡ length inner.rest = omega (arith, inner.second.0) in
     inr (record {
       count = joined.front;
       size = inner.front;
-      items = inner.rest;
+      spelled = inner.rest;
       whole = joined.parts ∙ ap (λ (x : List ℕ). joined.front ++ x) inner.parts;
       less = n;
       counts = joined.first;
       many = omega arith;
       sizes = subst (SpellsNumber long inner.front) (true_size ∙ ap (λ (k : ℕ). pos k) same) inner.first;
-      spelled = inner.second.1;
+      spells = inner.second.1;
     })
 
 -- what is read is spelled so
@@ -55,26 +56,26 @@ sized_took place n pairs input start taken number read kept =
     subst (BlockTook pairs input place) (ok_is items taken test.1) is))
 
 -- what is spelled so is read, whatever follows
-pub sized_again : (place : ℕ) (pairs : List Pair) (input bytes rest : List ℕ) (more : List Pair) → drop place input ≡ bytes ++ rest → IsSized more bytes → IsSoFar (pairs ++ more) → length pairs + length more ≤ most_pairs
+pub sized_again : (place : ℕ) (pairs : List Pair) (input bytes rest : List ℕ) (more : List Pair) → drop place input ≡ bytes ++ rest → IsSized SpellsPair more bytes → IsSoFar (pairs ++ more) → length pairs + length more ≤ most_pairs
     → BlockAgain place pairs input bytes more
 unfolding map_block_at sized_at
 sized_again place pairs input bytes rest more parts block kept few =
-    let inner : (block.size ++ block.items) ++ rest ≡ block.size ++ (block.items ++ rest) = append_assoc block.size block.items rest in
-    let whole : drop place input ≡ block.count ++ (block.size ++ (block.items ++ rest)) = parts ∙ ap (λ (x : List ℕ). x ++ rest) block.whole ∙ append_assoc block.count (block.size ++ block.items) rest ∙ ap (λ (x : List ℕ). block.count ++ x) inner in
+    let inner : (block.size ++ block.spelled) ++ rest ≡ block.size ++ (block.spelled ++ rest) = append_assoc block.size block.spelled rest in
+    let whole : drop place input ≡ block.count ++ (block.size ++ (block.spelled ++ rest)) = parts ∙ ap (λ (x : List ℕ). x ++ rest) block.whole ∙ append_assoc block.count (block.size ++ block.spelled) rest ∙ ap (λ (x : List ℕ). block.count ++ x) inner in
     let start = place + length block.count in
-    let behind = drop_behind input place block.count (block.size ++ (block.items ++ rest)) whole in
-    let size = map_number_again input start block.size (block.items ++ rest) (pos (length block.items)) behind block.sizes in
+    let behind = drop_behind input place block.count (block.size ++ (block.spelled ++ rest)) whole in
+    let size = map_number_again input start block.size (block.spelled ++ rest) (pos (length block.spelled)) behind block.sizes in
     let first = start + length block.size in
-    let read = pairs_again more pairs input first block.items rest (drop_behind input start block.size (block.items ++ rest) behind) block.spelled kept in
+    let read = pairs_again more pairs input first block.spelled rest (drop_behind input start block.size (block.spelled ++ rest) behind) block.spells kept in
     let many : length more ≡ suc block.less = omega (arith, block.many) in
-    let counted : pairs_at (suc block.less) pairs input first ≡ Ok (pairs ++ more, first + length block.items) = ap (λ (n : ℕ). pairs_at n pairs input first) (sym many) ∙ read in
+    let counted : pairs_at (suc block.less) pairs input first ≡ Ok (pairs ++ more, first + length block.spelled) = ap (λ (n : ℕ). pairs_at n pairs input first) (sym many) ∙ read in
     let fits : nat_lt most_pairs (length pairs + suc block.less) ≡ false = le-ltb _ _ (omega arith) in
-    let true_size : is_natural (pos (length block.items)) (first + length block.items - first) ≡ true = eq-eqb _ _ (omega arith) in
-    let ends : first + length block.items ≡ place + length bytes = omega (arith, ap length block.whole, length-append block.count (block.size ++ block.items), length-append block.size block.items) in
+    let true_size : is_natural (pos (length block.spelled)) (first + length block.spelled - first) ≡ true = eq-eqb _ _ (omega arith) in
+    let ends : first + length block.spelled ≡ place + length bytes = omega (arith, ap length block.whole, length-append block.count (block.size ++ block.spelled), length-append block.size block.spelled) in
     record {
       count = negsuc block.less;
       start = start;
-      number = map_number_again input place block.count (block.size ++ (block.items ++ rest)) (negsuc block.less) whole block.counts;
+      number = map_number_again input place block.count (block.size ++ (block.spelled ++ rest)) (negsuc block.less) whole block.counts;
       some = refl;
       read = rw (fits, size, counted, true_size, ends) refl;
     }
