@@ -5,7 +5,6 @@ use Rattle.std.proofs.lemmas.Bool.{le-ltb}
 use Rattle.std.proofs.lemmas.List.{length-append}
 use Rattle.words.specs.Reading.{Gives}
 use Rattle.words.specs.Laws.{refused_so}
-use Rattle.lt_base.specs.declared.limit.TheConstants.{OBJECT}
 use Rattle.avro_container.specs.declared.container.Block.{Block}
 use Rattle.avro_container.specs.declared.container.Container.{Container}
 use Rattle.avro_container.specs.declared.refusal.ContainerRefusal.{ContainerRefusal}
@@ -13,7 +12,7 @@ use Rattle.avro_container.specs.declared.refusal.ContainerRefusal.TheVariants.{L
 use Rattle.avro_container.specs.Refusal.{is_memory}
 use Rattle.avro_container.specs.Header.{Pair, magic, part_at, header_at}
 use Rattle.avro_container.specs.Block.{blocks_at}
-use Rattle.avro_container.specs.Container.{container_at}
+use Rattle.avro_container.specs.Container.{most_bytes, container_at}
 use Rattle.avro_container.specs.Format.{SpellsBlocks, IsContainer}
 use Rattle.avro_container.proofs.Parts.{drop_behind, range_is}
 use Rattle.avro_container.proofs.Steps.{bind_then, test_failed, ok_is}
@@ -46,7 +45,7 @@ container_is input header first blocks took marker_read spelled =
 pub container_found : (input : List ℕ) (container : Container) → container_at input ≡ Ok container → IsContainer input container
 unfolding container_at
 container_found input container read =
-    let few = test_failed (nat_lt OBJECT (length input)) _ (Limit (length input)) container read in
+    let few = test_failed (nat_lt most_bytes (length input)) _ (Limit (length input)) container read in
     bind_then (header_at input) _ container few.1 (λ header header_read others.
     bind_then (part_at 16 input header.1) _ container others (λ first first_read others.
     bind_then (blocks_at (length input) (slice_range input header.1 first) 1 input first) _ container others (λ blocks blocks_read made.
@@ -54,7 +53,7 @@ container_found input container read =
     subst (IsContainer input) (ok_is _ container made) (container_is input header first blocks (header_took input header header_read) first_read spelled))))
 
 -- the container whose file the bytes are is read
-pub container_again : (input : List ℕ) (container : Container) → IsContainer input container → length input ≤ OBJECT → container_at input ≡ Ok container
+pub container_again : (input : List ℕ) (container : Container) → IsContainer input container → length input ≤ most_bytes → container_at input ≡ Ok container
 unfolding container_at
 container_again input container is few =
     let header = header_again input container.meta is.map (container.sync ++ is.blocks) is.whole is.header is.maps in
@@ -64,7 +63,7 @@ container_again input container is few =
     let marker : slice_range input (4 + length is.map) (4 + length is.map + 16) ≡ container.sync = ap (λ (n : ℕ). slice_range input (4 + length is.map) (4 + length is.map + n)) (sym is.marker) ∙ range_is input (4 + length is.map) container.sync is.blocks front in
     let behind : drop (4 + length is.map + 16) input ≡ is.blocks = ap (λ (n : ℕ). drop (4 + length is.map + n) input) (sym is.marker) ∙ drop_behind input (4 + length is.map) container.sync is.blocks front in
     let blocks = blocks_again container.blocks (length input) container.sync 1 input (4 + length is.map + 16) is.blocks is.marker behind is.spelled (omega arith) in
-    let fits : nat_lt OBJECT (length input) ≡ false = le-ltb _ _ few in
+    let fits : nat_lt most_bytes (length input) ≡ false = le-ltb _ _ few in
     rw (fits, header, first, marker, blocks) refl
 
 -- ---- the clauses, of whatever is answered
@@ -75,6 +74,6 @@ is_found input (Ok container) given = container_found input container given
 is_found input (Err e) given = tt
 
 -- and what they are the file of is answered
-pub is_only : (input : List ℕ) (r : Result Container ContainerRefusal) → Gives is_memory (λ c. c) r (container_at input) → (container : Container) → IsContainer input container → length input ≤ OBJECT → Gives is_memory (λ c. c) r (Ok container)
+pub is_only : (input : List ℕ) (r : Result Container ContainerRefusal) → Gives is_memory (λ c. c) r (container_at input) → (container : Container) → IsContainer input container → length input ≤ most_bytes → Gives is_memory (λ c. c) r (Ok container)
 is_only input (Ok other) given container is few = sym (container_again input container is few) ∙ given
 is_only input (Err e) given container is few = refused_so (is_memory e) (λ refused. sym (container_again input container is few) ∙ refused) given

@@ -21,35 +21,6 @@ pub struct Frame {
     pub end: usize,
 }
 
-/// What a refused count or size of the block is called.
-fn block_refusal(block: u64, refusal: WireRefusal) -> ContainerRefusal
-    ensures { result ≡ refusal_in_block block refusal }
-{
-    match refusal {
-        WireRefusal::Short { place } => ContainerRefusal::Short { place },
-        WireRefusal::TooLong { .. } => ContainerRefusal::Form { block },
-    }
-}
-
-/// The count or the size of a block, and the place after it.
-#[tactic(auto, unfolding(crate::specs::Block::count_at))]
-fn take_count(block: u64, input: &[u8], place: usize) -> Result<(u64, usize), ContainerRefusal>
-    requires { place ≤ length input.now }
-    ensures exact { Gives never (λ taken. taken) result (count_at block input.now place) }
-    ensures within { IfOk result (λ taken. (place < taken.1) × (taken.1 ≤ length input.now)) }
-    ensures fits { IfOk result (λ taken. taken.0 < 2 ^ 63) }
-{
-    match take_long(input, place) {
-        Ok((count, after)) => {
-            if count < 0 {
-                return Err(ContainerRefusal::Form { block });
-            }
-            Ok((count as u64, after))
-        }
-        Err(refusal) => Err(block_refusal(block, refusal)),
-    }
-}
-
 /// The block at `place`, and where the next one begins.
 #[tactic(auto, unfolding(crate::specs::Block::frame_at))]
 pub fn take_frame(
@@ -74,4 +45,33 @@ pub fn take_frame(
         return Err(ContainerRefusal::Sync { block });
     }
     Ok((Frame { count, start, end }, after))
+}
+
+/// The count or the size of a block, and the place after it.
+#[tactic(auto, unfolding(crate::specs::Block::count_at))]
+fn take_count(block: u64, input: &[u8], place: usize) -> Result<(u64, usize), ContainerRefusal>
+    requires { place ≤ length input.now }
+    ensures exact { Gives never (λ taken. taken) result (count_at block input.now place) }
+    ensures within { IfOk result (λ taken. (place < taken.1) × (taken.1 ≤ length input.now)) }
+    ensures fits { IfOk result (λ taken. taken.0 < 2 ^ 63) }
+{
+    match take_long(input, place) {
+        Ok((count, after)) => {
+            if count < 0 {
+                return Err(ContainerRefusal::Form { block });
+            }
+            Ok((count as u64, after))
+        }
+        Err(refusal) => Err(block_refusal(block, refusal)),
+    }
+}
+
+/// What a refused count or size of the block is called.
+fn block_refusal(block: u64, refusal: WireRefusal) -> ContainerRefusal
+    ensures { result ≡ refusal_in_block block refusal }
+{
+    match refusal {
+        WireRefusal::Short { place } => ContainerRefusal::Short { place },
+        WireRefusal::TooLong { .. } => ContainerRefusal::Form { block },
+    }
 }

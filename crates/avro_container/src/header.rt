@@ -11,19 +11,38 @@ use avro_wire::{Bytes, WireRefusal, take_bytes, take_long, text_of};
 use std::alloc::Global;
 
 /// `Obj` and the format's version.
-const MAGIC: [u8; 4] = [0x4f, 0x62, 0x6a, 1];
+pub const MAGIC: [u8; 4] = [0x4f, 0x62, 0x6a, 1];
 
 /// The most pairs that a header may have.
 const MOST_PAIRS: u64 = 16_777_216;
 
-/// What a refused number or length of the map is called.
-fn header_refusal(refusal: WireRefusal) -> ContainerRefusal
-    ensures { result ≡ refusal_in_header refusal }
+/// The header's pairs, and where the marker behind them begins.
+#[tactic(auto, unfolding(crate::specs::Header::header_at))]
+pub fn take_header(alloc: Global, input: &[u8]) -> Result<(Pairs, usize), ContainerRefusal>
+    ensures exact { Gives is_memory (λ header. header) result (header_at input.now) }
+    ensures within { IfOk result (λ header. header.1 ≤ length input.now) }
 {
-    match refusal {
-        WireRefusal::Short { place } => ContainerRefusal::Short { place },
-        WireRefusal::TooLong { place } => ContainerRefusal::Header { place },
+    let start = take_magic(input)?;
+    let mut pairs = Pairs::new(alloc);
+    let after = take_map(alloc, &mut pairs, input, start)?;
+    check(alloc, &pairs, after)?;
+    Ok((pairs, after))
+}
+
+/// The next `count` bytes, whole: where they end.
+#[tactic(auto, unfolding(crate::specs::Header::part_at))]
+pub fn take_part(input: &[u8], place: usize, count: u64) -> Result<usize, ContainerRefusal>
+    requires { place ≤ length input.now }
+    ensures exact { Gives never (λ after. after) result (part_at count input.now place) }
+    ensures within { IfOk result (λ after.
+        (after ≡ place + count) × (after ≤ length input.now)) }
+{
+    if ((input.len() - place) as u64) < count {
+        return Err(ContainerRefusal::Short {
+            place: place as u64,
+        });
     }
+    Ok(place + count as usize)
 }
 
 /// Where the header's map begins.
@@ -44,6 +63,29 @@ fn take_magic(input: &[u8]) -> Result<usize, ContainerRefusal>
     Ok(4)
 }
 
+/// The map's pairs: the place after it.
+fn take_map(
+    alloc: Global,
+    pairs: &mut Pairs,
+    input: &[u8],
+    place: usize,
+) -> Result<usize, ContainerRefusal>
+    requires { place ≤ length input.now }
+    ensures exact { Gives is_memory (λ after. (pairs.new, after)) result
+        (map_at (length input.now) pairs.old input.now place) }
+    ensures within { IfOk result (λ after. (place ≤ after) × (after ≤ length input.now)) }
+{
+    let mut at = place;
+    for _ in 0..input.len() {
+        let (count, start) = take_map_number(input, at)?;
+        if count == 0 {
+            return Ok(start);
+        }
+        at = take_map_block(alloc, pairs, count, input, at, start)?;
+    }
+    Ok(at)
+}
+
 /// A number of the map, and the place after it.
 #[tactic(auto, unfolding(crate::specs::Header::map_number_at))]
 fn take_map_number(input: &[u8], place: usize) -> Result<(i64, usize), ContainerRefusal>
@@ -57,98 +99,36 @@ fn take_map_number(input: &[u8], place: usize) -> Result<(i64, usize), Container
     }
 }
 
-/// Where the bytes of a key or a value start, and where they end.
-#[tactic(auto, unfolding(crate::specs::Header::item_at))]
-fn take_item(input: &[u8], place: usize) -> Result<(usize, usize), ContainerRefusal>
-    requires { place ≤ length input.now }
-    ensures exact { Gives is_memory (λ taken. taken) result (item_at input.now place) }
-    ensures within { IfOk result (λ taken.
-        (place < taken.0) × (taken.0 ≤ taken.1) × (taken.1 ≤ length input.now)) }
+/// What a refused number or length of the map is called.
+fn header_refusal(refusal: WireRefusal) -> ContainerRefusal
+    ensures { result ≡ refusal_in_header refusal }
 {
-    match take_bytes(input, place) {
-        Ok(taken) => Ok(taken),
-        Err(refusal) => Err(header_refusal(refusal)),
+    match refusal {
+        WireRefusal::Short { place } => ContainerRefusal::Short { place },
+        WireRefusal::TooLong { place } => ContainerRefusal::Header { place },
     }
 }
 
-/// A pair behind those before it: the place after it.
-#[tactic(auto, unfolding(crate::specs::Header::pair_at, crate::specs::Header::key_at))]
-fn take_pair(
+/// The block of the map whose count, which is not 0, stood at `place`: the place after it.
+#[tactic(auto, unfolding(crate::specs::Header::map_block_at))]
+fn take_map_block(
     alloc: Global,
     pairs: &mut Pairs,
-    input: &[u8],
-    place: usize,
-) -> Result<usize, ContainerRefusal>
-    requires { place ≤ length input.now }
-    ensures exact { Gives is_memory (λ after. (pairs.new, after)) result
-        (pair_at pairs.old input.now place) }
-    ensures within { IfOk result (λ after. (place < after) × (after ≤ length input.now)) }
-{
-    let (start, end) = take_item(input, place)?;
-    let Some(key) = text_of(&input[start..end]) else {
-        return Err(ContainerRefusal::Header {
-            place: place as u64,
-        });
-    };
-    if pairs.has(key) {
-        return Err(ContainerRefusal::Header {
-            place: place as u64,
-        });
-    }
-    let (start, after) = take_item(input, end)?;
-    pairs.push(alloc, key, &input[start..after])?;
-    Ok(after)
-}
-
-/// So many pairs behind those before them: the place after them.
-fn take_pairs(
-    alloc: Global,
-    pairs: &mut Pairs,
-    count: u64,
-    input: &[u8],
-    place: usize,
-) -> Result<usize, ContainerRefusal>
-    requires { place ≤ length input.now }
-    ensures exact { Gives is_memory (λ after. (pairs.new, after)) result
-        (pairs_at count pairs.old input.now place) }
-    ensures within { IfOk result (λ after. (place ≤ after) × (after ≤ length input.now)) }
-{
-    let mut at = place;
-    for _ in 0..count {
-        at = take_pair(alloc, pairs, input, at)?;
-    }
-    Ok(at)
-}
-
-/// Whether so many pairs more are too many.
-fn are_too_many(pairs: &Pairs, count: u64) -> bool
-    ensures { result ≡ nat_lt most_pairs (length pairs.now + count) }
-{
-    let before = pairs.len() as u64;
-    before > MOST_PAIRS || count > MOST_PAIRS - before
-}
-
-/// The pairs of a block whose count stood at `place`: the place after them.
-#[tactic(auto, unfolding(crate::specs::Header::counted_at))]
-fn take_counted(
-    alloc: Global,
-    pairs: &mut Pairs,
-    count: u64,
+    count: i64,
     input: &[u8],
     place: usize,
     start: usize,
 ) -> Result<usize, ContainerRefusal>
     requires { start ≤ length input.now }
     ensures exact { Gives is_memory (λ after. (pairs.new, after)) result
-        (counted_at place count pairs.old input.now start) }
+        (map_block_at place pairs.old input.now (count, start)) }
     ensures within { IfOk result (λ after. (start ≤ after) × (after ≤ length input.now)) }
 {
-    if are_too_many(pairs, count) {
-        return Err(ContainerRefusal::Header {
-            place: place as u64,
-        });
+    if count < 0 {
+        take_sized(alloc, pairs, count.unsigned_abs(), input, place, start)
+    } else {
+        take_counted(alloc, pairs, count as u64, input, place, start)
     }
-    take_pairs(alloc, pairs, count, input, start)
 }
 
 /// The pairs of a block that tells its size, which has to be true: the place after them.
@@ -181,30 +161,37 @@ fn take_sized(
     Ok(after)
 }
 
-/// The block of the map whose count, which is not 0, stood at `place`: the place after it.
-#[tactic(auto, unfolding(crate::specs::Header::map_block_at))]
-fn take_map_block(
-    alloc: Global,
-    pairs: &mut Pairs,
-    count: i64,
-    input: &[u8],
-    place: usize,
-    start: usize,
-) -> Result<usize, ContainerRefusal>
-    requires { start ≤ length input.now }
-    ensures exact { Gives is_memory (λ after. (pairs.new, after)) result
-        (map_block_at place pairs.old input.now (count, start)) }
-    ensures within { IfOk result (λ after. (start ≤ after) × (after ≤ length input.now)) }
+/// Whether so many pairs more are too many.
+fn are_too_many(pairs: &Pairs, count: u64) -> bool
+    ensures { result ≡ nat_lt most_pairs (length pairs.now + count) }
 {
-    if count < 0 {
-        take_sized(alloc, pairs, count.unsigned_abs(), input, place, start)
-    } else {
-        take_counted(alloc, pairs, count as u64, input, place, start)
-    }
+    let before = pairs.len() as u64;
+    before > MOST_PAIRS || count > MOST_PAIRS - before
 }
 
-/// The map's pairs: the place after it.
-fn take_map(
+/// So many pairs behind those before them: the place after them.
+fn take_pairs(
+    alloc: Global,
+    pairs: &mut Pairs,
+    count: u64,
+    input: &[u8],
+    place: usize,
+) -> Result<usize, ContainerRefusal>
+    requires { place ≤ length input.now }
+    ensures exact { Gives is_memory (λ after. (pairs.new, after)) result
+        (pairs_at count pairs.old input.now place) }
+    ensures within { IfOk result (λ after. (place ≤ after) × (after ≤ length input.now)) }
+{
+    let mut at = place;
+    for _ in 0..count {
+        at = take_pair(alloc, pairs, input, at)?;
+    }
+    Ok(at)
+}
+
+/// A pair behind those before it: the place after it.
+#[tactic(auto, unfolding(crate::specs::Header::pair_at, crate::specs::Header::key_at))]
+fn take_pair(
     alloc: Global,
     pairs: &mut Pairs,
     input: &[u8],
@@ -212,18 +199,60 @@ fn take_map(
 ) -> Result<usize, ContainerRefusal>
     requires { place ≤ length input.now }
     ensures exact { Gives is_memory (λ after. (pairs.new, after)) result
-        (map_at (length input.now) pairs.old input.now place) }
-    ensures within { IfOk result (λ after. (place ≤ after) × (after ≤ length input.now)) }
+        (pair_at pairs.old input.now place) }
+    ensures within { IfOk result (λ after. (place < after) × (after ≤ length input.now)) }
 {
-    let mut at = place;
-    for _ in 0..input.len() {
-        let (count, start) = take_map_number(input, at)?;
-        if count == 0 {
-            return Ok(start);
-        }
-        at = take_map_block(alloc, pairs, count, input, at, start)?;
+    let (start, end) = take_item(input, place)?;
+    let Some(key) = text_of(&input[start..end]) else {
+        return Err(ContainerRefusal::Header {
+            place: place as u64,
+        });
+    };
+    if pairs.has(key) {
+        return Err(ContainerRefusal::Header {
+            place: place as u64,
+        });
     }
-    Ok(at)
+    let (start, after) = take_item(input, end)?;
+    pairs.push(alloc, key, &input[start..after])?;
+    Ok(after)
+}
+
+/// Where the bytes of a key or a value start, and where they end.
+#[tactic(auto, unfolding(crate::specs::Header::item_at))]
+fn take_item(input: &[u8], place: usize) -> Result<(usize, usize), ContainerRefusal>
+    requires { place ≤ length input.now }
+    ensures exact { Gives is_memory (λ taken. taken) result (item_at input.now place) }
+    ensures within { IfOk result (λ taken.
+        (place < taken.0) × (taken.0 ≤ taken.1) × (taken.1 ≤ length input.now)) }
+{
+    match take_bytes(input, place) {
+        Ok(taken) => Ok(taken),
+        Err(refusal) => Err(header_refusal(refusal)),
+    }
+}
+
+/// The pairs of a block whose count stood at `place`: the place after them.
+#[tactic(auto, unfolding(crate::specs::Header::counted_at))]
+fn take_counted(
+    alloc: Global,
+    pairs: &mut Pairs,
+    count: u64,
+    input: &[u8],
+    place: usize,
+    start: usize,
+) -> Result<usize, ContainerRefusal>
+    requires { start ≤ length input.now }
+    ensures exact { Gives is_memory (λ after. (pairs.new, after)) result
+        (counted_at place count pairs.old input.now start) }
+    ensures within { IfOk result (λ after. (start ≤ after) × (after ≤ length input.now)) }
+{
+    if are_too_many(pairs, count) {
+        return Err(ContainerRefusal::Header {
+            place: place as u64,
+        });
+    }
+    take_pairs(alloc, pairs, count, input, start)
 }
 
 /// Whether the map has what a header needs: `place` is where it ends.
@@ -243,33 +272,4 @@ fn check(alloc: Global, pairs: &Pairs, place: usize) -> Result<(), ContainerRefu
             name: Bytes::from_slice(alloc, name)?,
         }),
     }
-}
-
-/// The header's pairs, and where the marker behind them begins.
-#[tactic(auto, unfolding(crate::specs::Header::header_at))]
-pub fn take_header(alloc: Global, input: &[u8]) -> Result<(Pairs, usize), ContainerRefusal>
-    ensures exact { Gives is_memory (λ header. header) result (header_at input.now) }
-    ensures within { IfOk result (λ header. header.1 ≤ length input.now) }
-{
-    let start = take_magic(input)?;
-    let mut pairs = Pairs::new(alloc);
-    let after = take_map(alloc, &mut pairs, input, start)?;
-    check(alloc, &pairs, after)?;
-    Ok((pairs, after))
-}
-
-/// The next `count` bytes, whole: where they end.
-#[tactic(auto, unfolding(crate::specs::Header::part_at))]
-pub fn take_part(input: &[u8], place: usize, count: u64) -> Result<usize, ContainerRefusal>
-    requires { place ≤ length input.now }
-    ensures exact { Gives never (λ after. after) result (part_at count input.now place) }
-    ensures within { IfOk result (λ after.
-        (after ≡ place + count) × (after ≤ length input.now)) }
-{
-    if ((input.len() - place) as u64) < count {
-        return Err(ContainerRefusal::Short {
-            place: place as u64,
-        });
-    }
-    Ok(place + count as usize)
 }

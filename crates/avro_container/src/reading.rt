@@ -2,9 +2,8 @@
 
 ghost use Rattle.std.specs.Prelude.{◌≡◌, ◌≤◌, length, Ok, IfOk};
 ghost use Rattle.words.specs.Reading.{Gives};
-ghost use Rattle.lt_base.specs.declared.limit.TheConstants.{OBJECT};
 ghost use Rattle.avro_container.specs.Refusal.{is_memory};
-ghost use Rattle.avro_container.specs.Container.{container_at};
+ghost use Rattle.avro_container.specs.Container.{most_bytes, container_at};
 ghost use Rattle.avro_container.specs.Format.{IsContainer};
 
 use crate::container::{Block, Container};
@@ -20,7 +19,7 @@ pub fn read(alloc: Global, input: &[u8]) -> Result<Container, ContainerRefusal>
     // The bytes are the file of what is read, and each file within the limit is read.
     ensures found { IfOk result (λ container. IsContainer input.now container) }
     ensures only { (container : Container) → IsContainer input.now container
-        → length input.now ≤ OBJECT → Gives is_memory (λ c. c) result (Ok container) }
+        → length input.now ≤ most_bytes → Gives is_memory (λ c. c) result (Ok container) }
     // Which refusal comes.
     ensures exact { Gives is_memory (λ container. container) result (container_at input.now) }
 {

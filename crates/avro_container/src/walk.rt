@@ -40,50 +40,6 @@ impl<'a> Model for Walk<'a> {
     ghost invariant = { λ w. IsFramed w.input.now w.sync w.first w.place w.lent };
 }
 
-/// Whether all that stands from `first` on are whole blocks.
-fn check_blocks(sync: &[u8; 16], input: &[u8], first: usize) -> Result<(), ContainerRefusal>
-    requires { first ≤ length input.now }
-    ensures { Gives never (λ done. done) result
-        (outcome (blocks_at (length input.now) sync.now 1 input.now first)) }
-{
-    let mut place = first;
-    for lent in 0..input.len() {
-        if place >= input.len() {
-            return Ok(());
-        }
-        let (_, after) = take_frame(sync, lent as u64 + 1, input, place)?;
-        place = after;
-    }
-    Ok(())
-}
-
-/// Checks the whole framing of the bytes: the container is there, and its blocks can be lent.
-#[tactic(auto, unfolding(crate::specs::Container::container_at))]
-pub fn open_walk(alloc: Global, input: &[u8]) -> Result<Walk<'_>, ContainerRefusal>
-    ensures exact { Gives is_memory (λ walk. walk.whole) result (container_at input.now) }
-    ensures start { IfOk result (λ walk. walk.left ≡ walk.whole.blocks) }
-    ensures ahead { IfOk result (λ walk. walk.ahead ≤ length input.now) }
-{
-    if input.len() as u64 > OBJECT {
-        return Err(ContainerRefusal::Limit {
-            found: input.len() as u64,
-        });
-    }
-    let (pairs, place) = take_header(alloc, input)?;
-    let first = take_part(input, place, SYNC_BYTES)?;
-    let mut sync = [0; 16];
-    sync.copy_from_slice(&input[place..first]);
-    check_blocks(&sync, input, first)?;
-    Ok(Walk {
-        input,
-        meta: pairs.into_meta(),
-        sync,
-        first,
-        place: first,
-        lent: 0,
-    })
-}
-
 impl<'a> Walk<'a> {
     ghost use Rattle.avro_container.specs.Container.{Walked};
 
@@ -110,6 +66,7 @@ impl<'a> Walk<'a> {
         ensures ahead { IfSome result (λ block.
             length block.1.now + self.new.ahead ≤ self.old.ahead) }
         ensures whole { self.new.whole ≡ self.old.whole }
+        ensures from_first { self.new.from_first ≡ self.old.from_first }
     {
         if self.place >= self.input.len() {
             return None;
@@ -126,7 +83,9 @@ impl<'a> Walk<'a> {
     /// Goes back to the first block.
     pub fn restart(&mut self)
         ensures start { self.new.left ≡ self.old.whole.blocks }
+        ensures ahead { self.new.ahead ≡ self.old.from_first }
         ensures whole { self.new.whole ≡ self.old.whole }
+        ensures from_first { self.new.from_first ≡ self.old.from_first }
     {
         self.place = self.first;
         self.lent = 0;
@@ -138,4 +97,49 @@ impl<'a> Walk<'a> {
     {
         self.meta
     }
+}
+
+/// Checks the whole framing of the bytes: the container is there, and its blocks can be lent.
+#[tactic(auto, unfolding(crate::specs::Container::container_at))]
+pub fn open_walk(alloc: Global, input: &[u8]) -> Result<Walk<'_>, ContainerRefusal>
+    ensures exact { Gives is_memory (λ walk. walk.whole) result (container_at input.now) }
+    ensures start { IfOk result (λ walk. walk.left ≡ walk.whole.blocks) }
+    ensures ahead { IfOk result (λ walk. walk.ahead ≤ length input.now) }
+    ensures from_first { IfOk result (λ walk. walk.from_first ≡ walk.ahead) }
+{
+    if input.len() as u64 > OBJECT {
+        return Err(ContainerRefusal::Limit {
+            found: input.len() as u64,
+        });
+    }
+    let (pairs, place) = take_header(alloc, input)?;
+    let first = take_part(input, place, SYNC_BYTES)?;
+    let mut sync = [0; 16];
+    sync.copy_from_slice(&input[place..first]);
+    check_blocks(&sync, input, first)?;
+    Ok(Walk {
+        input,
+        meta: pairs.into_meta(),
+        sync,
+        first,
+        place: first,
+        lent: 0,
+    })
+}
+
+/// Whether all that stands from `first` on are whole blocks.
+fn check_blocks(sync: &[u8; 16], input: &[u8], first: usize) -> Result<(), ContainerRefusal>
+    requires { first ≤ length input.now }
+    ensures { Gives never (λ done. done) result
+        (outcome (blocks_at (length input.now) sync.now 1 input.now first)) }
+{
+    let mut place = first;
+    for lent in 0..input.len() {
+        if place >= input.len() {
+            return Ok(());
+        }
+        let (_, after) = take_frame(sync, lent as u64 + 1, input, place)?;
+        place = after;
+    }
+    Ok(())
 }
