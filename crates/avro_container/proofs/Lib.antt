@@ -19,3 +19,7 @@ pub mod SpelledBlocks
 pub mod SpelledMagic
 pub mod SpelledHeader
 pub mod SpelledFile
+pub mod PutLemmas
+pub mod WrittenMap
+pub mod WrittenBlocks
+pub mod WrittenFile

@@ -4,3 +4,4 @@ pub mod Block
 pub mod Container
 pub mod Walk
 pub mod Format
+pub mod Writing

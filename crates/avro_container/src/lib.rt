@@ -9,6 +9,7 @@
 //! | `block` | reading one block |
 //! | `walk` | the whole framing checked, and its blocks lent one after the other |
 //! | `reading` | a container as plain data, from its bytes |
+//! | `writing` | the bytes of a container |
 #![tactic(auto)]
 
 mod block;
@@ -18,11 +19,13 @@ mod pairs;
 mod reading;
 mod refusal;
 mod walk;
+mod writing;
 
 pub use container::{Block, Blocks, Container, Meta, bound_to};
 pub use reading::read;
 pub use refusal::ContainerRefusal;
 pub use walk::{Walk, open_walk};
+pub use writing::write;
 
 #[cfg(test)]
 mod tests;

@@ -1,7 +1,8 @@
-//! Files from outside, read and walked, and the refusal of each that is wrong.
+//! Files from outside, read, walked and written, and the refusal of each that is wrong.
 
 use super::*;
-use avro_wire::Bytes;
+use avro_wire::{Bytes, Text};
+use sqlite_items::Items;
 use std::alloc::{AllocError, Global};
 use std::test::*;
 
@@ -225,5 +226,93 @@ fn a_walk_lends_each_block_in_order(rt: HostRuntime) -> Result<(), Fail> {
     assert_eq!(rt; walk.next(), Some((0, [].as_slice())));
     assert_eq!(rt; walk.next(), None);
     assert_eq!(rt; walk.into_meta().len(), 2);
+    Ok(())
+}
+
+// A container of these pairs and blocks.
+fn container_of(
+    alloc: Global,
+    pairs: &[(&str, &[u8])],
+    blocks: &[(i64, &[u8])],
+) -> Result<Container, AllocError> {
+    let mut file = Container {
+        meta: Items::new(alloc),
+        sync: [0; 16],
+        blocks: Items::new(alloc),
+    };
+    for (key, value) in pairs {
+        let key = Text::from_str(alloc, key)?;
+        let value = Bytes::from_slice(alloc, value)?;
+        file.meta.push((key, value))?;
+    }
+    for (count, bytes) in blocks {
+        let bytes = Bytes::from_slice(alloc, bytes)?;
+        file.blocks.push(Block {
+            count: *count,
+            bytes,
+        })?;
+    }
+    Ok(file)
+}
+
+// The pairs of `file`, and a key that the format doesn't name.
+fn pairs() -> [(&'static str, &'static [u8]); 3] {
+    [("avro.schema", SCHEMA), ("avro.codec", b"null"), ("a", b"")]
+}
+
+// Whether the container of these pairs and blocks is written as these parts, one behind the other.
+fn is_written(
+    alloc: Global,
+    pairs: &[(&str, &[u8])],
+    blocks: &[(i64, &[u8])],
+    wanted: &[&[u8]],
+) -> Result<bool, AllocError> {
+    let file = container_of(alloc, pairs, blocks)?;
+    let written = write(alloc, &file)?;
+    let wanted = joined(alloc, wanted)?;
+    Ok(written.as_slice() == wanted.as_slice())
+}
+
+#[test]
+fn a_container_is_written_as_its_file(rt: HostRuntime) -> Result<(), Fail> {
+    let alloc = rt.alloc();
+    let pairs = pairs();
+    let blocks = [(3, &OBJECTS[2..]), (0, b"".as_slice())];
+    let whole = file(alloc)?;
+    let one = is_written(alloc, &pairs[..2], &blocks[..1], &[&whole])?;
+    assert!(rt; one, "one block");
+    let two = is_written(alloc, &pairs[..2], &blocks, &[&whole, b"\x00\x00", MARKER])?;
+    assert!(rt; two, "two blocks");
+    let none = is_written(alloc, &[], &[], &[b"Obj\x01\x00", MARKER])?;
+    assert!(rt; none, "no pair and no block");
+    Ok(())
+}
+
+#[test]
+fn a_key_of_another_name_is_written_behind(rt: HostRuntime) -> Result<(), Fail> {
+    let front = b"Obj\x01\x06\x16avro.schema\xa6\x02";
+    let behind = b"\x08null\x02a\x00\x00";
+    let wanted = [front.as_slice(), SCHEMA, CODEC, behind, MARKER];
+    assert!(rt; is_written(rt.alloc(), &pairs(), &[], &wanted)?);
+    Ok(())
+}
+
+#[test]
+fn what_is_written_is_read_again(rt: HostRuntime) -> Result<(), Fail> {
+    let alloc = rt.alloc();
+    let blocks = [(3, &OBJECTS[2..]), (0, b"".as_slice())];
+    let written = write(alloc, &container_of(alloc, &pairs(), &blocks)?)?;
+    let again = read(alloc, written.as_slice()).ok().ok_or("it is a file")?;
+    assert_eq!(rt; again.sync.as_slice(), MARKER);
+    assert_eq!(rt; again.meta.len(), 3);
+    for (pair, (key, value)) in again.meta.as_slice().iter().zip(pairs()) {
+        assert_eq!(rt; pair.0.as_str(), key);
+        assert_eq!(rt; pair.1.as_slice(), value, "{key}");
+    }
+    assert_eq!(rt; again.blocks.len(), 2);
+    for (block, (count, bytes)) in again.blocks.as_slice().iter().zip(blocks) {
+        assert_eq!(rt; block.count, count);
+        assert_eq!(rt; block.bytes.as_slice(), bytes);
+    }
     Ok(())
 }
