@@ -12,8 +12,8 @@ use crate::header::MAGIC;
 use avro_wire::{Bytes, Text, put_bytes, put_long};
 use std::alloc::{AllocError, Global};
 
-/// The file of the container. An `Err` says that memory ran out.
-/// Avro spec, "Object Container Files".
+/// The file of the container. No container is refused: one that `read` would refuse is written too.
+/// An `Err` says that memory ran out. Avro spec, "Object Container Files".
 #[tactic(auto, unfolding(crate::specs::Writing::container_text))]
 pub fn write(alloc: Global, value: &Container) -> Result<Bytes, AllocError>
     ensures text { IfOk result (λ bytes. bytes ≡ container_text value.now) }
