@@ -1,0 +1,122 @@
+-- The one text of a schema that is written: its JSON tokens, without a space between them. docs/FORMATS.md, "Avro schemas".
+use Rattle.std.specs.Prelude.{ℕ, ℤ, Bool, true, false, List, [], ◌∷◌, ◌++◌, Option, Some, None, codes}
+use Rattle.std.specs.List.{flat_map}
+use Rattle.std.specs.Fmt.{decimal, signed_decimal}
+use Rattle.json.specs.Token.{Token, begin_object, end_object, begin_array, end_array, key, string, number, boolean, null}
+use Rattle.json.specs.Print.{print}
+use Rattle.avro_schema.specs.declared.schema.Schema.{Schema}
+use Rattle.avro_schema.specs.declared.schema.Schema.TheOpen.{Schema-F, Field-F, Null, Boolean, Int, Long, Float, Double, Raw, Str, Fixed, Enum, Rec, Array, Map, Union}
+use Rattle.avro_schema.specs.declared.schema.Schema.TheFolds.{fold-Schema}
+use Rattle.avro_schema.specs.declared.schema.Logical.{Logical}
+use Rattle.avro_schema.specs.declared.schema.Logical.TheVariants.{Plain, Date, TimeMicros, StampMicros, StampMicrosUtc}
+
+-- a schema as it is written, and whether it is the null type, or a union that begins with it
+pub record Written : Type 0 where
+  pub tokens : List Token
+  pub is_null : Bool
+  pub begins_with_null : Bool
+
+-- a schema of another kind
+abbrev pub other : List Token → Written
+other tokens = record { tokens = tokens; is_null = false; begins_with_null = false }
+
+-- ---- members of objects
+
+-- a member that is a text
+abbrev pub text_member : List ℕ → List ℕ → List Token
+text_member name text = key name ∷ string text ∷ []
+
+-- a member that is a truth value
+abbrev pub flag_member : List ℕ → Bool → List Token
+flag_member name flag = key name ∷ boolean flag ∷ []
+
+-- an id, which is left out with its member where there is none
+abbrev pub id_member : List ℕ → Option ℤ → List Token
+id_member name None = []
+id_member name (Some id) = key name ∷ number (signed_decimal id) ∷ []
+
+-- an object of these members
+abbrev pub object_of : List Token → List Token
+object_of members = begin_object ∷ (members ++ end_object ∷ [])
+
+-- a list of these items
+abbrev pub list_of : List Token → List Token
+list_of items = begin_array ∷ (items ++ end_array ∷ [])
+
+-- a list of texts
+abbrev pub texts_of : List (List ℕ) → List Token
+texts_of texts = list_of (flat_map (λ text. string text ∷ []) texts)
+
+-- a type that is a word alone
+abbrev pub word : List ℕ → List Token
+word name = string name ∷ []
+
+-- ---- schemas
+
+-- a type that stands for something
+abbrev pub logical_type : List ℕ → List ℕ → List Token
+logical_type name logical = text_member (codes "type") name ++ text_member (codes "logicalType") logical
+
+-- an int
+abbrev pub int_tokens : Logical → List Token
+int_tokens Plain = word (codes "int")
+int_tokens Date = object_of (logical_type (codes "int") (codes "date"))
+int_tokens TimeMicros = word (codes "int")
+int_tokens StampMicros = word (codes "int")
+int_tokens StampMicrosUtc = word (codes "int")
+
+-- a long
+abbrev pub long_tokens : Logical → List Token
+long_tokens Plain = word (codes "long")
+long_tokens Date = word (codes "long")
+long_tokens TimeMicros = object_of (logical_type (codes "long") (codes "time-micros"))
+long_tokens StampMicros = object_of (logical_type (codes "long") (codes "timestamp-micros") ++ flag_member (codes "adjust-to-utc") false)
+long_tokens StampMicrosUtc = object_of (logical_type (codes "long") (codes "timestamp-micros") ++ flag_member (codes "adjust-to-utc") true)
+
+-- the mark of an array that stands for a map
+abbrev pub keyed_member : Bool → List Token
+keyed_member false = []
+keyed_member true = text_member (codes "logicalType") (codes "map")
+
+-- the default value of a field that may be null first
+abbrev pub default_member : Bool → List Token
+default_member false = []
+default_member true = key (codes "default") ∷ null ∷ []
+
+-- the first branch is the null type
+abbrev pub null_is_first : List Written → Bool
+null_is_first [] = false
+null_is_first (branch ∷ branches) = branch.is_null
+
+-- the tokens of schemas, one behind the other
+abbrev pub all_tokens : List Written → List Token
+all_tokens parts = flat_map (λ part. part.tokens) parts
+
+-- a schema, by those in it
+abbrev pub written_of : Schema-F Written Written → Written
+written_of Null = record { tokens = word (codes "null"); is_null = true; begins_with_null = false }
+written_of Boolean = other (word (codes "boolean"))
+written_of (Int logical) = other (int_tokens logical)
+written_of (Long logical) = other (long_tokens logical)
+written_of Float = other (word (codes "float"))
+written_of Double = other (word (codes "double"))
+written_of Raw = other (word (codes "bytes"))
+written_of Str = other (word (codes "string"))
+written_of (Fixed name size) = other (object_of (text_member (codes "type") (codes "fixed") ++ (text_member (codes "name") name ++ (key (codes "size") ∷ number (decimal size) ∷ []))))
+written_of (Enum name symbols) = other (object_of (text_member (codes "type") (codes "enum") ++ (text_member (codes "name") name ++ (key (codes "symbols") ∷ texts_of symbols))))
+written_of (Rec name fields) = other (object_of (text_member (codes "type") (codes "record") ++ (text_member (codes "name") name ++ (key (codes "fields") ∷ list_of (all_tokens fields)))))
+written_of (Array items element_id keyed) = other (object_of (text_member (codes "type") (codes "array") ++ (keyed_member keyed ++ (key (codes "items") ∷ (items.tokens ++ id_member (codes "element-id") element_id)))))
+written_of (Map values key_id value_id) = other (object_of (text_member (codes "type") (codes "map") ++ (key (codes "values") ∷ (values.tokens ++ (id_member (codes "key-id") key_id ++ id_member (codes "value-id") value_id)))))
+written_of (Union branches) = record { tokens = list_of (all_tokens branches); is_null = false; begins_with_null = null_is_first branches }
+
+-- a field
+abbrev pub written_field : Field-F Written Written → Written
+written_field field = other (object_of (text_member (codes "name") field.name ++ (key (codes "type") ∷ (field.schema.tokens ++ (default_member field.schema.begins_with_null ++ id_member (codes "field-id") field.id)))))
+
+-- a schema as it is written
+abbrev pub written : Schema → Written
+written = fold-Schema Written Written written_of written_field
+
+-- its text
+unfoldable pub schema_text : Schema → List ℕ
+schema_text schema = print (written schema).tokens
