@@ -1,0 +1,12 @@
+pub mod Refusal
+pub mod Value
+pub mod Fits
+pub mod Reading
+pub mod Block
+pub mod Readers
+pub mod Spelling
+pub mod Canonical
+pub mod Kinds
+pub mod Writing
+pub mod Spelled
+pub mod Counting

@@ -1,0 +1,37 @@
+//! Avro values, as a schema says that bytes spell them.
+//!
+//! | Module | What it has |
+//! |---|---|
+//! | `datum` | values, and their copy |
+//! | `cursor` | a place inside a value |
+//! | `refusal` | why bytes are no value |
+//! | `primitive`, `block` | numbers, truth values, bytes and texts; the heads and ends of blocks |
+//! | `reading` | the value of some bytes |
+//! | `skipping` | where a value ends, without building it |
+//! | `kinds`, `fitting` | what a value is; whether it is one of a schema |
+//! | `writing` | the bytes of a value |
+//! | `reading_tests`, `writing_tests` | the standard's examples, and refusals with their places |
+#![tactic(auto)]
+
+mod block;
+mod cursor;
+mod datum;
+mod fitting;
+mod kinds;
+mod primitive;
+mod reading;
+#[cfg(test)]
+mod reading_tests;
+mod refusal;
+mod skipping;
+mod writing;
+#[cfg(test)]
+mod writing_tests;
+
+pub use cursor::Cursor;
+pub use datum::{Datum, Items, Pairs};
+pub use fitting::fits;
+pub use reading::{decode, no_prefix};
+pub use refusal::DatumRefusal;
+pub use skipping::skip;
+pub use writing::encode;
