@@ -1,0 +1,86 @@
+-- Which Avro types hold the cells of a column. Iceberg spec, "Appendix A: Format-specific Requirements", "Avro".
+use Rattle.std.specs.Prelude.{Bool, true, false, List, [], ◌∷◌, Option, Some, None}
+use Rattle.lt_base.specs.declared.column.Kind.{Kind}
+use Rattle.lt_base.specs.declared.column.Kind.TheVariants as kinds
+use Rattle.avro_schema.specs.declared.schema.Schema.{Schema, out-Schema}
+use Rattle.avro_schema.specs.declared.schema.Field.{Field}
+use Rattle.avro_schema.specs.declared.schema.Schema.TheOpen.{Schema-F, Null, Boolean, Int, Long, Raw, Str, Union}
+use Rattle.avro_schema.specs.declared.schema.Logical.{Logical}
+use Rattle.avro_schema.specs.declared.schema.Logical.TheVariants.{Date, TimeMicros, StampMicros, StampMicrosUtc}
+
+-- one level of a schema
+abbrev pub Level : Type 0
+Level = Schema-F Schema Field
+
+-- it is the null type
+abbrev pub is_null : Level → Bool
+is_null Null = true
+is_null _ = false
+
+-- whether null may stand there, and the type beside it
+pub record Nullable : Type 0 where
+  pub has_null : Bool
+  pub type : Schema
+
+-- the type of a union of two branches, of which one alone is null
+abbrev pub beside_null : Bool → Bool → Schema → Schema → Option Nullable
+beside_null true true first second = None
+beside_null true false first second = Some (record { has_null = true; type = second })
+beside_null false true first second = Some (record { has_null = true; type = first })
+beside_null false false first second = None
+
+abbrev pub of_branches : List Schema → Option Nullable
+of_branches [] = None
+of_branches (first ∷ []) = None
+of_branches (first ∷ second ∷ []) = beside_null (is_null (out-Schema first)) (is_null (out-Schema second)) first second
+of_branches (first ∷ second ∷ third ∷ others) = None
+
+-- how a field's type is read: bare, or beside null
+abbrev pub nullable_level : Schema → Level → Option Nullable
+nullable_level schema (Union branches) = of_branches branches
+nullable_level schema _ = Some (record { has_null = false; type = schema })
+
+abbrev pub nullable : Schema → Option Nullable
+nullable schema = nullable_level schema (out-Schema schema)
+
+-- cells of the kind are read from the type; what a number stands for isn't asked
+abbrev pub holds : Kind → Level → Bool
+holds kinds.Boolean Boolean = true
+holds kinds.Int (Int logical) = true
+holds kinds.Long (Int logical) = true
+holds kinds.Long (Long logical) = true
+holds kinds.Date (Int logical) = true
+holds kinds.Time (Long logical) = true
+holds kinds.Timestamp (Long logical) = true
+holds kinds.Timestamptz (Long logical) = true
+holds kinds.Text Str = true
+holds kinds.Bytes Raw = true
+holds _ _ = false
+
+-- a column of the kind is read from a field of the type
+abbrev pub is_allowed_as : Kind → Option Nullable → Bool
+is_allowed_as kind None = false
+is_allowed_as kind (Some found) = holds kind (out-Schema found.type)
+
+abbrev pub is_allowed : Kind → Schema → Bool
+is_allowed kind schema = is_allowed_as kind (nullable schema)
+
+-- the kind that a number of the type is of, by what it stands for
+abbrev pub int_kind : Logical → Kind
+int_kind Date = kinds.Date
+int_kind _ = kinds.Int
+
+abbrev pub long_kind : Logical → Kind
+long_kind TimeMicros = kinds.Time
+long_kind StampMicros = kinds.Timestamp
+long_kind StampMicrosUtc = kinds.Timestamptz
+long_kind _ = kinds.Long
+
+-- the kind of the cells that a type holds; None where it holds none
+abbrev pub kind_of : Level → Option Kind
+kind_of Boolean = Some kinds.Boolean
+kind_of (Int logical) = Some (int_kind logical)
+kind_of (Long logical) = Some (long_kind logical)
+kind_of Str = Some kinds.Text
+kind_of Raw = Some kinds.Bytes
+kind_of _ = None

@@ -1,0 +1,124 @@
+//! Which types hold the cells of a column.
+
+ghost use Rattle.std.specs.Prelude.{◌≡◌, MatchOption};
+ghost use Rattle.std.specs.declared.option.Option.TheVariants.{None, Some};
+ghost use Rattle.avro_schema.specs.declared.schema.Schema.{out-Schema};
+ghost use Rattle.row_file.specs.Kind.{nullable, beside_null, is_null, holds, is_allowed, int_kind, long_kind, kind_of};
+
+use avro_schema::{Logical, Schema};
+use lt_base::Kind;
+
+/// How a field's type is read.
+#[derive(Debug, Drop)]
+pub struct CellType<'a> {
+    /// Whether null may stand there.
+    pub has_null: bool,
+    /// The type alone, or the one beside null.
+    pub schema: &'a Schema,
+}
+
+/// How the type is read: bare, or in a union of two branches beside null. None for any other union.
+/// Iceberg spec, "Appendix A: Format-specific Requirements", "Avro".
+pub fn nullable(schema: &Schema) -> Option<CellType<'_>>
+    ensures { MatchOption result (nullable schema.now ≡ None) (λ found. nullable schema.now
+        ≡ Some (record { has_null = found.has_null; type = found.schema.now })) }
+{
+    let Schema::Union(branches) = schema else {
+        return Some(CellType {
+            has_null: false,
+            schema,
+        });
+    };
+    if branches.len() != 2 {
+        return None;
+    }
+    let branches = branches.as_slice();
+    beside_null(&branches[0], &branches[1])
+}
+
+/// The type of a union of two branches, of which one alone is null.
+fn beside_null<'a>(first: &'a Schema, second: &'a Schema) -> Option<CellType<'a>>
+    ensures { MatchOption result
+        (beside_null (is_null (out-Schema first.now)) (is_null (out-Schema second.now))
+        first.now second.now ≡ None)
+        (λ found. beside_null (is_null (out-Schema first.now)) (is_null (out-Schema second.now))
+        first.now second.now
+        ≡ Some (record { has_null = found.has_null; type = found.schema.now })) }
+{
+    let schema = match (is_null(first), is_null(second)) {
+        (true, false) => second,
+        (false, true) => first,
+        _ => return None,
+    };
+    Some(CellType {
+        has_null: true,
+        schema,
+    })
+}
+
+/// Whether it is the null type.
+fn is_null(schema: &Schema) -> bool
+    ensures { result ≡ is_null (out-Schema schema.now) }
+{
+    matches!(schema, Schema::Null)
+}
+
+/// Whether cells of the kind are read from the type. What a number stands for isn't asked.
+pub fn holds(kind: Kind, schema: &Schema) -> bool
+    ensures { result ≡ holds kind (out-Schema schema.now) }
+{
+    match kind {
+        Kind::Boolean => matches!(schema, Schema::Boolean),
+        Kind::Int | Kind::Date => matches!(schema, Schema::Int(_)),
+        Kind::Long => matches!(schema, Schema::Int(_) | Schema::Long(_)),
+        Kind::Time | Kind::Timestamp | Kind::Timestamptz => matches!(schema, Schema::Long(_)),
+        Kind::Text => matches!(schema, Schema::Str),
+        Kind::Bytes => matches!(schema, Schema::Raw),
+    }
+}
+
+/// Whether a column of the kind is read from a field of the type.
+pub fn is_allowed(kind: Kind, schema: &Schema) -> bool
+    ensures { result ≡ is_allowed kind schema.now }
+{
+    match nullable(schema) {
+        Some(found) => holds(kind, found.schema),
+        None => false,
+    }
+}
+
+/// The kind of the cells that the type holds, by what its numbers stand for. None: it holds none.
+pub fn kind_of(schema: &Schema) -> Option<Kind>
+    ensures { result ≡ kind_of (out-Schema schema.now) }
+{
+    match schema {
+        Schema::Boolean => Some(Kind::Boolean),
+        Schema::Int(logical) => Some(int_kind(*logical)),
+        Schema::Long(logical) => Some(long_kind(*logical)),
+        Schema::Str => Some(Kind::Text),
+        Schema::Raw => Some(Kind::Bytes),
+        _ => None,
+    }
+}
+
+/// The kind of an int.
+fn int_kind(logical: Logical) -> Kind
+    ensures { result ≡ int_kind logical }
+{
+    match logical {
+        Logical::Date => Kind::Date,
+        _ => Kind::Int,
+    }
+}
+
+/// The kind of a long.
+fn long_kind(logical: Logical) -> Kind
+    ensures { result ≡ long_kind logical }
+{
+    match logical {
+        Logical::TimeMicros => Kind::Time,
+        Logical::StampMicros => Kind::Timestamp,
+        Logical::StampMicrosUtc => Kind::Timestamptz,
+        _ => Kind::Long,
+    }
+}
