@@ -33,7 +33,7 @@ fn moved_to(at: Cursor, place: usize) -> Cursor
     }
 }
 
-/// A number of 64 bits.
+/// The long at the cursor, and the cursor behind it. Avro spec, "Primitive Types".
 #[tactic(auto, unfolding(crate::specs::Reading::number_from))]
 pub fn take_long_at(input: &[u8], at: Cursor) -> Result<(i64, Cursor), DatumRefusal>
     requires { at.place ≤ length input.now }
@@ -47,7 +47,7 @@ pub fn take_long_at(input: &[u8], at: Cursor) -> Result<(i64, Cursor), DatumRefu
     }
 }
 
-/// A number of 32 bits.
+/// The int at the cursor, and the cursor behind it. Avro spec, "Primitive Types".
 #[tactic(auto, unfolding(crate::specs::Reading::number_from))]
 pub fn take_int_at(input: &[u8], at: Cursor) -> Result<(i32, Cursor), DatumRefusal>
     requires { at.place ≤ length input.now }
@@ -61,7 +61,7 @@ pub fn take_int_at(input: &[u8], at: Cursor) -> Result<(i32, Cursor), DatumRefus
     }
 }
 
-/// A truth value.
+/// The truth value at the cursor, and the cursor behind it. Avro spec, "Primitive Types".
 pub fn take_flag(input: &[u8], at: Cursor) -> Result<(bool, Cursor), DatumRefusal>
     requires { at.place ≤ length input.now }
     ensures exact { Gives never (λ taken. (datums.Flag taken.0, taken.1)) result
@@ -98,7 +98,8 @@ pub fn pass_raw(size: u64, input: &[u8], at: Cursor) -> Result<Cursor, DatumRefu
     Ok(moved_to(at, at.place + size as usize))
 }
 
-/// Where the bytes behind a length start, and where they end.
+/// The bytes at the cursor, which stand behind their length: where they start, and the cursor
+/// behind them. Avro spec, "Primitive Types".
 #[tactic(auto, unfolding(crate::specs::Reading::sized_at))]
 pub fn pass_sized(input: &[u8], at: Cursor) -> Result<(usize, Cursor), DatumRefusal>
     requires { at.place ≤ length input.now }
@@ -114,7 +115,8 @@ pub fn pass_sized(input: &[u8], at: Cursor) -> Result<(usize, Cursor), DatumRefu
     }
 }
 
-/// A text behind its length.
+/// The text at the cursor, lent from the input, and the cursor behind it. `Utf8` names where its
+/// length begins. Avro spec, "Primitive Types".
 #[tactic(auto, unfolding(crate::specs::Reading::text_at))]
 pub fn take_text<'a>(input: &'a [u8], at: Cursor) -> Result<(&'a str, Cursor), DatumRefusal>
     requires { at.place ≤ length input.now }
@@ -131,7 +133,8 @@ pub fn take_text<'a>(input: &'a [u8], at: Cursor) -> Result<(&'a str, Cursor), D
     }
 }
 
-/// The number of a branch or a symbol, of so many.
+/// The place of a union's branch or of an enum's symbol at the cursor, counted from 0, of so many.
+/// Beside it the cursor behind it. Avro spec, "Unions"; "Enums".
 #[tactic(auto, unfolding(crate::specs::Reading::choice_at))]
 pub fn take_choice(many: usize, input: &[u8], at: Cursor) -> Result<(u32, Cursor), DatumRefusal>
     requires { at.place ≤ length input.now }

@@ -179,6 +179,17 @@ fn types_of_parts_name_them_in_this_order(rt: HostRuntime) -> Result<(), Fail> {
     expect(
         &rt,
         alloc,
+        last_null(alloc)?,
+        r#"{"type":"record","name":"row","fields":[{"name":"x","type":["int","null"]}]}"#,
+    )
+}
+
+#[test]
+fn arrays_and_maps_name_what_they_hold(rt: HostRuntime) -> Result<(), Fail> {
+    let alloc = rt.alloc();
+    expect(
+        &rt,
+        alloc,
         array(alloc, None, false)?,
         r#"{"type":"array","items":"bytes"}"#,
     )?;
@@ -205,11 +216,5 @@ fn types_of_parts_name_them_in_this_order(rt: HostRuntime) -> Result<(), Fail> {
         alloc,
         map(alloc, Some(118), Some(119))?,
         r#"{"type":"map","values":"double","key-id":118,"value-id":119}"#,
-    )?;
-    expect(
-        &rt,
-        alloc,
-        last_null(alloc)?,
-        r#"{"type":"record","name":"row","fields":[{"name":"x","type":["int","null"]}]}"#,
     )
 }
