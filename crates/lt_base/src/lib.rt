@@ -27,7 +27,7 @@ pub use cell::{Cell, Cells};
 pub use column::{Column, Kind};
 pub use columns::{Columns, ColumnsRefusal};
 pub use entry::{Entries, Entry, Run, Runs};
-pub use limit::{INPUT, OBJECT, ROWS_INPUT};
+pub use limit::{FILE_ROWS, INPUT, OBJECT, ROWS_INPUT};
 pub use request::{Paths, Request};
 pub use row::{CellRows, Row, RowList, StoredRow, StoredRows, Unnamed};
 pub use row_map::RowMap;

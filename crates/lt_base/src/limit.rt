@@ -8,3 +8,6 @@ pub const INPUT: u64 = 16_777_216;
 
 /// The most bytes of the input of `rows`.
 pub const ROWS_INPUT: u64 = 67_108_864;
+
+/// The most rows of one data file.
+pub const FILE_ROWS: u64 = 1_048_576;
