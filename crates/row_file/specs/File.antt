@@ -37,13 +37,13 @@ next_row schema columns input (rows, place) = map_value (λ read. (rows ++ read.
 abbrev pub ended : ℕ → List ℕ → List StoredRow × ℕ → Result (List StoredRow) RowRefusal
 ended number input (rows, place) = if place == length input then Ok rows else Err (Rest number)
 
--- how many rows a block says that it has; none has fewer than 0
+-- how many rows a count says that there are; none has fewer than 0
+abbrev pub rows_told : ℤ → ℕ
+rows_told (pos count) = count
+rows_told (negsuc count) = 0
+
 abbrev pub count_of : Block → ℕ
-count_of block = natural block.count
-  where
-    natural : ℤ → ℕ
-    natural (pos count) = count
-    natural (negsuc count) = 0
+count_of block = rows_told block.count
 
 -- the rows of a block, whose number counts from 1, behind those of the blocks before it
 unfoldable pub block_rows : Schema → List Column → ℕ → Block → Result (List StoredRow) RowRefusal
@@ -68,12 +68,12 @@ unfoldable pub check_counts : ℕ → List Block → Result (Unit {0}) RowRefusa
 check_counts before [] = Ok tt
 check_counts before (block ∷ blocks) = if nat_lt most_rows (before + count_of block) then Err (Limit FileRows (before + count_of block)) else check_counts (before + count_of block) blocks
 
--- the file has as many rows as it was told to have, where it was told
+-- the file has as many rows as the caller says, where that is said
 abbrev pub check_told : Option ℤ → ℕ → Result (Unit {0}) RowRefusal
 check_told None found = Ok tt
 check_told (Some told) found = if int_eq told (pos found) then Ok tt else Err (RecordCount told (pos found))
 
--- where the file has a first row id, that id and the number of rows are together an id or the next one
+-- where the file has a first row id, that id and the number of rows are together at most the largest long
 abbrev pub check_ids : Option ℤ → ℕ → Result (Unit {0}) RowRefusal
 check_ids None rows = Ok tt
 check_ids (Some first) rows = if int_lt (pos (2 ^ 63 - 1)) (first +ℤ pos rows) then Err (IdsSpent first (pos rows)) else Ok tt
@@ -105,7 +105,7 @@ unfoldable pub rows_from : Option ℤ → ℤ → ℕ → List StoredRow → Lis
 rows_from first sequence position [] = []
 rows_from first sequence position (stored ∷ others) = read_row first sequence position stored ∷ rows_from first sequence (position + 1) others
 
--- the rows of a file for a table of these columns, with the file's first row id, its data sequence number and the number of rows that it was told to have
+-- the rows of a file for a table of these columns, with the file's first row id, its data sequence number and the number of rows that the caller says it has
 unfoldable pub rows_of : List ℕ → List Column → Option ℤ → ℤ → Option ℤ → Result (List Row) RowRefusal
 rows_of bytes columns first sequence told = do
   file ← opened bytes

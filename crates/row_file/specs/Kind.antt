@@ -2,6 +2,8 @@
 use Rattle.std.specs.Prelude.{Bool, true, false, List, [], ◌∷◌, Option, Some, None}
 use Rattle.lt_base.specs.declared.column.Kind.{Kind}
 use Rattle.lt_base.specs.declared.column.Kind.TheVariants as kinds
+use Rattle.row_file.specs.declared.kind.Primitive.{Primitive}
+use Rattle.row_file.specs.declared.kind.Primitive.TheVariants as primitives
 use Rattle.avro_schema.specs.declared.schema.Schema.{Schema, out-Schema}
 use Rattle.avro_schema.specs.declared.schema.Field.{Field}
 use Rattle.avro_schema.specs.declared.schema.Schema.TheOpen.{Schema-F, Null, Boolean, Int, Long, Raw, Str, Union}
@@ -43,19 +45,36 @@ nullable_level schema _ = Some (record { has_null = false; type = schema })
 abbrev pub nullable : Schema → Option Nullable
 nullable schema = nullable_level schema (out-Schema schema)
 
+-- the primitive type of the cells of a type; None for one that holds none
+abbrev pub primitive_of : Level → Option Primitive
+primitive_of Boolean = Some primitives.Boolean
+primitive_of (Int logical) = Some primitives.Int
+primitive_of (Long logical) = Some primitives.Long
+primitive_of Str = Some primitives.Text
+primitive_of Raw = Some primitives.Bytes
+primitive_of _ = None
+
+-- cells of the kind are read from the primitive type
+abbrev pub is_read_from : Kind → Primitive → Bool
+is_read_from kinds.Boolean primitives.Boolean = true
+is_read_from kinds.Int primitives.Int = true
+is_read_from kinds.Long primitives.Int = true
+is_read_from kinds.Long primitives.Long = true
+is_read_from kinds.Date primitives.Int = true
+is_read_from kinds.Time primitives.Long = true
+is_read_from kinds.Timestamp primitives.Long = true
+is_read_from kinds.Timestamptz primitives.Long = true
+is_read_from kinds.Text primitives.Text = true
+is_read_from kinds.Bytes primitives.Bytes = true
+is_read_from _ _ = false
+
 -- cells of the kind are read from the type; what a number stands for isn't asked
+abbrev pub holds_as : Kind → Option Primitive → Bool
+holds_as kind None = false
+holds_as kind (Some primitive) = is_read_from kind primitive
+
 abbrev pub holds : Kind → Level → Bool
-holds kinds.Boolean Boolean = true
-holds kinds.Int (Int logical) = true
-holds kinds.Long (Int logical) = true
-holds kinds.Long (Long logical) = true
-holds kinds.Date (Int logical) = true
-holds kinds.Time (Long logical) = true
-holds kinds.Timestamp (Long logical) = true
-holds kinds.Timestamptz (Long logical) = true
-holds kinds.Text Str = true
-holds kinds.Bytes Raw = true
-holds _ _ = false
+holds kind level = holds_as kind (primitive_of level)
 
 -- a column of the kind is read from a field of the type
 abbrev pub is_allowed_as : Kind → Option Nullable → Bool

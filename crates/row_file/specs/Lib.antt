@@ -2,7 +2,13 @@ pub mod Refusal
 pub mod Kind
 pub mod Field
 pub mod Row
+pub mod Cell
+pub mod Plan
+pub mod Planning
 pub mod File
+pub mod Stored
+pub mod Checked
 pub mod Fault
 pub mod Columns
 pub mod Writing
+pub mod Written

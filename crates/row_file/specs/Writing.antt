@@ -118,6 +118,11 @@ lineage_data true row = number_datum row.id ∷ number_datum row.last ∷ []
 abbrev pub row_datum : List Column → Bool → StoredRow → Datum
 row_datum columns lineage row = datums.Rec (cell_data columns row.cells ++ lineage_data lineage row)
 
+-- the row as it is stored: without its id and its last change where these are not written
+abbrev pub kept : Bool → StoredRow → StoredRow
+kept true row = row
+kept false row = record { id = None; last = None; cells = row.cells }
+
 -- ---- the file
 
 -- the most rows of a block that is written

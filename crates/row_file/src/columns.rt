@@ -1,11 +1,14 @@
 //! The columns of a file, by its own schema.
 
-ghost use Rattle.std.specs.Prelude.{◌≡◌, ◌≤◌, [], length};
+ghost use Rattle.std.specs.Prelude.{◌≡◌, ◌≤◌, [], length, All, IfOk};
 ghost use Rattle.words.specs.Reading.{Gives, never};
 ghost use Rattle.avro_schema.specs.declared.schema.Field.{out-Field};
 ghost use Rattle.lt_base.specs.Columns.{first_fault, has_name, has_wrong_name as wrong_name};
 ghost use Rattle.row_file.specs.Refusal.{is_memory};
 ghost use Rattle.row_file.specs.Kind.{nullable};
+ghost use Rattle.row_file.specs.Field.{find, fields_of};
+ghost use Rattle.row_file.specs.File.{opened};
+ghost use Rattle.row_file.specs.Stored.{IsHeld};
 ghost use Rattle.row_file.specs.Columns.{column_of_type, with_field, columns_from, checked, file_columns_of};
 ghost use Rattle.row_file.specs.Fault.{id_of};
 
@@ -33,10 +36,13 @@ const MOST_NAME_BYTES: usize = 255;
 /// A file that can't be opened is refused first; then the first field that has no id (`Kind` with
 /// the id 0) or whose type holds no cells (`Kind`); then that there is no column or that there are
 /// more than 200 (`Kind` with the id 0), the first wrong id, and the first column with a wrong
-/// name. docs/FORMATS.md, "Columns of data files".
+/// name. docs/FORMATS.md, "Data files".
 #[tactic(auto, unfolding(crate::specs::Columns::file_columns_of, crate::specs::Columns::columns_in))]
 pub fn file_columns(alloc: Global, bytes: &[u8]) -> Result<Columns, RowRefusal>
     ensures exact { Gives is_memory (λ columns. columns) result (file_columns_of bytes.now) }
+    // Each of them can be read from the file: it has a field, whose type is one of its kind.
+    ensures readable { IfOk result (λ columns. IfOk (opened bytes.now) (λ file.
+        All (λ column. IsHeld column (find column.id (fields_of file.1))) columns)) }
 {
     let (_, schema) = open_file(alloc, bytes)?;
     let list = take_columns(alloc, fields_of(&schema))?;

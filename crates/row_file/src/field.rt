@@ -10,10 +10,10 @@ use avro_schema::{Field, Schema};
 use lt_base::{Column, Kind};
 
 /// The id of the column of row ids. Iceberg spec, "Reserved Field IDs".
-const ROW_ID_FIELD: i32 = 2_147_483_540;
+pub const ROW_ID_FIELD: i32 = 2_147_483_540;
 
 /// The id of the column of the sequence numbers of last changes.
-const LAST_UPDATED_FIELD: i32 = 2_147_483_539;
+pub const LAST_UPDATED_FIELD: i32 = 2_147_483_539;
 
 /// The fields of a file's schema. One that is no record has none.
 pub fn fields_of(schema: &Schema) -> &[Field]

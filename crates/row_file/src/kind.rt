@@ -3,10 +3,20 @@
 ghost use Rattle.std.specs.Prelude.{◌≡◌, MatchOption};
 ghost use Rattle.std.specs.declared.option.Option.TheVariants.{None, Some};
 ghost use Rattle.avro_schema.specs.declared.schema.Schema.{out-Schema};
-ghost use Rattle.row_file.specs.Kind.{nullable, beside_null, is_null, holds, is_allowed, int_kind, long_kind, kind_of};
+ghost use Rattle.row_file.specs.Kind.{nullable, beside_null, is_null, primitive_of, is_read_from, holds, is_allowed, int_kind, long_kind, kind_of};
 
 use avro_schema::{Logical, Schema};
 use lt_base::Kind;
+
+/// A primitive type of cells. Avro spec, "Primitive Types".
+#[derive(Clone, Copy, Debug, PartialEq, Eq)]
+pub enum Primitive {
+    Boolean,
+    Int,
+    Long,
+    Text,
+    Bytes,
+}
 
 /// How a field's type is read.
 #[derive(Debug, Drop)]
@@ -57,7 +67,7 @@ fn beside_null<'a>(first: &'a Schema, second: &'a Schema) -> Option<CellType<'a>
 }
 
 /// Whether it is the null type.
-fn is_null(schema: &Schema) -> bool
+pub fn is_null(schema: &Schema) -> bool
     ensures { result ≡ is_null (out-Schema schema.now) }
 {
     matches!(schema, Schema::Null)
@@ -67,13 +77,37 @@ fn is_null(schema: &Schema) -> bool
 pub fn holds(kind: Kind, schema: &Schema) -> bool
     ensures { result ≡ holds kind (out-Schema schema.now) }
 {
+    match primitive_of(schema) {
+        Some(primitive) => is_read_from(kind, primitive),
+        None => false,
+    }
+}
+
+/// Whether cells of the kind are read from the primitive type.
+fn is_read_from(kind: Kind, primitive: Primitive) -> bool
+    ensures { result ≡ is_read_from kind primitive }
+{
     match kind {
-        Kind::Boolean => matches!(schema, Schema::Boolean),
-        Kind::Int | Kind::Date => matches!(schema, Schema::Int(_)),
-        Kind::Long => matches!(schema, Schema::Int(_) | Schema::Long(_)),
-        Kind::Time | Kind::Timestamp | Kind::Timestamptz => matches!(schema, Schema::Long(_)),
-        Kind::Text => matches!(schema, Schema::Str),
-        Kind::Bytes => matches!(schema, Schema::Raw),
+        Kind::Boolean => primitive == Primitive::Boolean,
+        Kind::Int | Kind::Date => primitive == Primitive::Int,
+        Kind::Long => primitive == Primitive::Int || primitive == Primitive::Long,
+        Kind::Time | Kind::Timestamp | Kind::Timestamptz => primitive == Primitive::Long,
+        Kind::Text => primitive == Primitive::Text,
+        Kind::Bytes => primitive == Primitive::Bytes,
+    }
+}
+
+/// The primitive type of the type's cells; None: it holds none.
+pub fn primitive_of(schema: &Schema) -> Option<Primitive>
+    ensures { result ≡ primitive_of (out-Schema schema.now) }
+{
+    match schema {
+        Schema::Boolean => Some(Primitive::Boolean),
+        Schema::Int(_) => Some(Primitive::Int),
+        Schema::Long(_) => Some(Primitive::Long),
+        Schema::Str => Some(Primitive::Text),
+        Schema::Raw => Some(Primitive::Bytes),
+        _ => None,
     }
 }
 

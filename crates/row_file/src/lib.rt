@@ -8,21 +8,41 @@
 //! | `field` | the field of a column, and whether the fields are those of a table |
 //! | `opening` | a file's blocks, and its schema |
 //! | `columns` | the columns of a file, by its own schema |
-//! | `tests` | rows of the standard's rules, and files with their columns or refusals |
+//! | `cell`, `form` | a cell that is lent from the bytes of a file, and how the cells of a field are read |
+//! | `plan`, `row` | which cell of a row each field fills; one row, lent from its bytes |
+//! | `block`, `checked` | the checks of a file's blocks; the rows of a file that was checked |
+//! | `reading` | reading all rows of a file |
+//! | `file_schema`, `row_value`, `writing` | the schema of a file that is written; a row as a value; writing rows |
+//! | `tests`, `reading_tests`, `writing_tests` | rows of the standard's rules; files with their columns, rows or refusals |
 #![tactic(auto)]
 
+mod block;
+mod cell;
+mod checked;
 mod columns;
 mod field;
+mod file_schema;
+mod form;
 mod kind;
 mod lineage;
 mod opening;
+mod plan;
+mod reading;
+#[cfg(test)]
+mod reading_tests;
 mod refusal;
+mod row;
+mod row_value;
 #[cfg(test)]
 mod tests;
+mod writing;
+#[cfg(test)]
+mod writing_tests;
 
+pub use cell::CellRef;
+pub use checked::{CheckedRows, check_file};
 pub use columns::file_columns;
-pub use field::{check_fields, fields_of, find};
-pub use kind::{CellType, holds, kind_of, nullable};
 pub use lineage::{row_id, row_last};
-pub use opening::open_file;
+pub use reading::read_rows;
 pub use refusal::RowRefusal;
+pub use writing::write_rows;

@@ -10,7 +10,7 @@ use lt_base::Which;
 use std::alloc::{AllocError, AllocFailed};
 
 /// Why the rows of a data file can't be read or written: the first cause in the order of the
-/// checks. docs/FORMATS.md, "Columns of data files".
+/// checks. docs/FORMATS.md, "Data files".
 #[derive(Debug, Drop)]
 pub enum RowRefusal {
     /// The bytes are no container.
@@ -26,12 +26,12 @@ pub enum RowRefusal {
     Datum(DatumRefusal),
     /// Bytes are left behind the last row of the block. Blocks count from 1.
     Rest { block: u64 },
-    /// The file was told to have another number of rows.
+    /// The caller says that the file has another number of rows.
     RecordCount { told: i64, found: i64 },
     /// The first row id plus the number of rows is above 9223372036854775807.
     IdsSpent { first: i64, rows: i64 },
     /// A quantity is above its limit: the bytes of the file, or its rows. `found`: how many there
-    /// are; of rows, how many up to the first block that passes the limit.
+    /// are; of rows that are read, how many up to the first block that passes the limit.
     Limit { which: Which, found: u64 },
     /// There was no memory.
     Memory,

@@ -1,6 +1,10 @@
 //! The lineage of rows by the standard's rules, and files with their columns or refusals.
 
-use super::*;
+use crate::columns::file_columns;
+use crate::field::{check_fields, fields_of, find};
+use crate::kind::{holds, kind_of, nullable};
+use crate::lineage::{row_id, row_last};
+use crate::opening::open_file;
 use avro_container::{Container, write};
 use avro_schema::{Field, read_schema};
 use avro_wire::{Bytes, Text};

@@ -1,0 +1,24 @@
+-- What is known of each row that is written.
+use Rattle.std.specs.Prelude.{◌≡◌, ℕ, ℤ, Bool, true, List, Option, IfSome}
+use Rattle.lt_base.specs.Fits.{is_long}
+use Rattle.lt_base.specs.declared.column.Column.{Column}
+use Rattle.lt_base.specs.declared.row.StoredRow.{StoredRow}
+use Rattle.avro_datum.specs.Canonical.{canonical}
+use Rattle.avro_datum.specs.Spelling.{IsEncoding}
+use Rattle.row_file.specs.Writing.{file_schema, row_datum}
+
+-- a number of 64 bits, or none
+abbrev pub IsLong : Option ℤ → Type 0
+IsLong number = IfSome number (λ number. is_long number ≡ true)
+
+-- the numbers beside a row's cells are of 64 bits
+abbrev pub HasLongs : StoredRow → Type 0
+HasLongs row = IsLong row.id × IsLong row.last
+
+-- the bytes that are written of a row
+abbrev pub row_text : List Column → Bool → StoredRow → List ℕ
+row_text columns lineage row = canonical (file_schema columns lineage) (row_datum columns lineage row)
+
+-- they are an encoding of the row's value
+abbrev pub IsEncodedRow : List Column → Bool → StoredRow → Type 0
+IsEncodedRow columns lineage row = IsEncoding (file_schema columns lineage) (row_datum columns lineage row) (row_text columns lineage row)
