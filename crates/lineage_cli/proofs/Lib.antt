@@ -1,6 +1,7 @@
 pub mod OutputLemmas
-pub mod RowsLemmas
 pub mod TextLemmas
 pub mod PrintLemmas
 pub mod RunLemmas
+pub mod RowsLemmas
 pub mod AuditLemmas
+pub mod StoredLemmas

@@ -87,10 +87,6 @@ pub shows_then : {E : Type 0} (before mid now : Option (List ℕ)) (w v u : List
 shows_then before mid now w v u (Ok done) x y p q = appends_then (shown before w) (shown mid v) (shown now u) x y p q
 shows_then before mid now w v u (Err e) x y p q = begins_then (shown before w) (shown mid v) now x y p q
 
--- nothing more is put
-pub shows_none : (before : Option (List ℕ)) (w : List ℕ) → Appends (shown before w) (shown before w) []
-shows_none before w = appends_none (shown before w)
-
 -- the same without a buffer
 pub puts_then : {E : Type 0} (before mid now : Option (List ℕ)) (result : Result (Unit {0}) E) (x y : List ℕ) → Appends before mid x → Puts mid now result y → Puts before now result (x ++ y)
 puts_then before mid now (Ok done) x y p q = appends_then before mid now x y p q

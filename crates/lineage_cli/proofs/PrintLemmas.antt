@@ -1,174 +1,79 @@
--- Lines that are printed row by row, and block by block.
-use Rattle.std.proofs.Common.{◌≡◌, ℕ, suc, ◌+◌, ◌-◌, ◌^◌, ◌<◌, ◌≤◌, Bool, true, false, List, [], ◌∷◌, ◌++◌, length, Result, Ok, Err, is_ok, cond, eqb, subst, refl, sym, ap, ◌∙◌, append_assoc, arith}
-use Rattle.std.specs.Prelude.{ℤ, pos, negsuc}
-use Rattle.std.proofs.lemmas.Bool.{false≢true}
-use Rattle.std.proofs.lemmas.List.{append-nil, length-append}
-use Rattle.std.proofs.lemmas.Grind.{flat_map-append}
-use Rattle.words.specs.Reading.{◌>>=◌, value_or}
-use Rattle.avro_container.specs.declared.container.Block.{Block}
-use Rattle.lineage_cli.specs.declared.rows.Found.{Found}
-use Rattle.lineage_cli.specs.declared.rows.RowsRefusal.{RowsRefusal}
-use Rattle.lineage_cli.specs.declared.rows.RowsRefusal.TheVariants.{Unread}
-use Rattle.lineage_cli.specs.Rows.{Stored, Row, stored_of, row_at, rows_at, counted_rows, rows_of, rows_read}
+-- A text that is put piece by piece: row by row, cell by cell, byte by byte.
+use Rattle.std.proofs.Common.{◌≡◌, ℕ, ◌+◌, ◌<◌, ◌≤◌, List, [], ◌∷◌, ◌++◌, length, get_or, drop, map, Option, refl, sym, ap, ◌∙◌, subst, append_assoc}
+use Rattle.std.specs.List.{flat_map}
+use Rattle.std.specs.Io.KnownBytes.{Appends}
+use Rattle.std.proofs.lemmas.List.{append-nil, drop_more, drop_all}
+use Rattle.hex.specs.Hex.{encode_lower, encode_with}
+use Rattle.lt_base.specs.declared.row.Row.{Row}
+use Rattle.row_pred.specs.Cells.{spaced_text}
+use Rattle.row_file.specs.declared.cell.CellRef.{CellRef}
+use Rattle.row_file.specs.Cell.{lent_cell}
+use Rattle.lineage_cli.specs.Output.{AppendsFront}
 use Rattle.lineage_cli.specs.Text.{row_line, lines}
-use Rattle.lineage_cli.proofs.RowsLemmas.{rows_many}
+use Rattle.lineage_cli.proofs.OutputLemmas.{appends_none, appends_then, begins_then, begins_more}
 
--- the rows of a reading that was checked
-abbrev pub rows_behind : Result (List Stored × ℕ) RowsRefusal → List Stored
-rows_behind read = (value_or ([], 0) read).0
+-- what was put so far, and what is still to put, are the text
+pub record IsBegun (start now : Option (List ℕ)) (rest text : List ℕ) : Type 0 where
+  pub before : List ℕ
+  pub whole : before ++ rest ≡ text
+  pub so_far : Appends start now before
 
--- what is printed so far and what is still to print are the text
-pub record IsPrinted (read : Result (List Stored × ℕ) RowsRefusal) (first last : ℕ) (before text : List ℕ) : Type 0 where
-  pub checked : is_ok read ≡ true
-  pub whole : before ++ lines (rows_read first last (rows_behind read)) ≡ text
+-- nothing was put
+pub begun_none : (start : Option (List ℕ)) (text : List ℕ) → IsBegun start start text text
+begun_none start text = record { before = []; whole = refl; so_far = appends_none start }
 
--- a row, and those behind it
-abbrev with_others : Stored → Result (List Stored × ℕ) RowsRefusal → Result (List Stored × ℕ) RowsRefusal
-with_others first read = read >>= λ others. Ok (first ∷ others.0, others.1)
-
-row_step : (stored : Stored) (read : Result (List Stored × ℕ) RowsRefusal) (first last : ℕ) (before text : List ℕ) → IsPrinted (with_others stored read) first last before text
-    → IsPrinted read (first + 1) last (before ++ row_line (record { id = first; last = last; stored = stored })) text
-row_step stored (Ok others) first last before text so_far = record {
-  checked = refl;
-  whole = append_assoc before (row_line (record { id = first; last = last; stored = stored })) (lines (rows_read (first + 1) last others.0)) ∙ so_far.whole;
+-- a piece is put
+pub begun_more : (start mid now : Option (List ℕ)) (rest piece others text : List ℕ) → rest ≡ piece ++ others → IsBegun start mid rest text → Appends mid now piece → IsBegun start now others text
+begun_more start mid now rest piece others text is begun more = record {
+  before = begun.before ++ piece;
+  whole = append_assoc begun.before piece others ∙ (ap (λ (l : List ℕ). begun.before ++ l) (sym is) ∙ begun.whole);
+  so_far = appends_then start mid now begun.before piece begun.so_far more;
 }
-row_step stored (Err e) first last before text so_far = absurd (false≢true so_far.checked)
 
--- what rows_at reads of the rows that are left
-left_is : (bytes : List ℕ) (count index at : ℕ) (found : Found) (after : ℕ) → index < count → row_at bytes at ≡ Ok (found, after) → rows_at (count - index) bytes at ≡ with_others (stored_of bytes found) (rows_at (count - (index + 1)) bytes after)
-unfolding rows_at
-left_is bytes count index at found after lt read =
-    let left : count - index ≡ suc (count - (index + 1)) = omega arith in
-    rw (left, read) refl
+-- a front of a piece is put
+pub begun_stops : (start mid now : Option (List ℕ)) (rest piece others text : List ℕ) → rest ≡ piece ++ others → IsBegun start mid rest text → AppendsFront mid now piece → AppendsFront start now text
+begun_stops start mid now rest piece others text is begun front =
+    subst (λ (l : List ℕ). AppendsFront start now l) (ap (λ (l : List ℕ). begun.before ++ l) (sym is) ∙ begun.whole) (begins_then start mid now begun.before (piece ++ others) begun.so_far (begins_more mid now piece others front))
 
--- a row is printed, and others are left
-pub prints_row : (bytes : List ℕ) (first last count index at : ℕ) (found : Found) (after : ℕ) (before text : List ℕ) → index < count → row_at bytes at ≡ Ok (found, after) → IsPrinted (rows_at (count - index) bytes at) (first + index) last before text
-    → IsPrinted (rows_at (count - (index + 1)) bytes after) (first + (index + 1)) last (before ++ row_line (record { id = first + index; last = last; stored = stored_of bytes found })) text
-prints_row bytes first last count index at found after before text lt read so_far =
-    let same = subst (λ (r : Result (List Stored × ℕ) RowsRefusal). IsPrinted r (first + index) last before text) (left_is bytes count index at found after lt read) so_far in
-    let next : first + index + 1 ≡ first + (index + 1) = omega arith in
-    subst (λ (id : ℕ). IsPrinted (rows_at (count - (index + 1)) bytes after) id last (before ++ row_line (record { id = first + index; last = last; stored = stored_of bytes found })) text) next (row_step (stored_of bytes found) (rows_at (count - (index + 1)) bytes after) (first + index) last before text same)
+-- nothing is left to put
+pub begun_whole : (start now : Option (List ℕ)) (rest text : List ℕ) → rest ≡ [] → IsBegun start now rest text → Appends start now text
+begun_whole start now rest text none begun =
+    subst (λ (l : List ℕ). Appends start now l) (sym (append-nil begun.before) ∙ (ap (λ (l : List ℕ). begun.before ++ l) (sym none) ∙ begun.whole)) begun.so_far
 
--- no row of those that were checked is refused
-pub never_refused : (bytes : List ℕ) (count index at : ℕ) (e : RowsRefusal) → index < count → row_at bytes at ≡ Err e → is_ok (rows_at (count - index) bytes at) ≡ true → ⊥
-unfolding rows_at
-never_refused bytes count index at e lt refused checked =
-    let left : count - index ≡ suc (count - (index + 1)) = omega arith in
-    let none : is_ok (rows_at (count - index) bytes at) ≡ false = rw (left, refused) refl in
-    false≢true (sym none ∙ checked)
+-- ---- byte by byte
+
+-- the digits of a byte, and those of the bytes behind it
+pub digits_next : (bytes : List ℕ) (at : ℕ) (piece : List ℕ) → at < length bytes → piece ≡ encode_lower (get_or bytes at 0 ∷ []) → encode_lower (drop at bytes) ≡ piece ++ encode_lower (drop (at + 1) bytes)
+unfolding encode_with
+digits_next bytes at piece lt is = rw (drop_more bytes at 0 lt, is) refl
+
+-- no byte is left
+pub digits_end : (bytes : List ℕ) (at : ℕ) → length bytes ≤ at → encode_lower (drop at bytes) ≡ []
+unfolding encode_with
+digits_end bytes at le = rw (drop_all at bytes le) refl
+
+-- ---- cell by cell
+
+-- a cell behind another one, and those behind it
+pub cells_next : (cells : List CellRef) (at : ℕ) (none : CellRef) → at < length cells → flat_map spaced_text (map lent_cell (drop at cells)) ≡ spaced_text (lent_cell (get_or cells at none)) ++ flat_map spaced_text (map lent_cell (drop (at + 1) cells))
+cells_next cells at none lt = ap (λ (l : List CellRef). flat_map spaced_text (map lent_cell l)) (drop_more cells at none lt)
+
+-- no cell is left
+pub cells_end : (cells : List CellRef) (at : ℕ) → length cells ≤ at → flat_map spaced_text (map lent_cell (drop at cells)) ≡ []
+cells_end cells at le = ap (λ (l : List CellRef). flat_map spaced_text (map lent_cell l)) (drop_all at cells le)
+
+-- ---- row by row
+
+-- a row's line, and those of the rows behind it
+pub lines_next : (left : List Row) (row : Row) (others : List Row) → left ≡ row ∷ others → lines left ≡ row_line row ++ lines others
+lines_next left row others is = ap lines is
 
 -- no row is left
-pub prints_end : (bytes : List ℕ) (first last count index at : ℕ) (before text : List ℕ) → count ≤ index → IsPrinted (rows_at (count - index) bytes at) first last before text → before ≡ text
-unfolding rows_at
-prints_end bytes first last count index at before text le so_far =
-    let left : count - index ≡ 0 = omega arith in
-    let none : rows_behind (rows_at (count - index) bytes at) ≡ [] = rw left refl in
-    sym (append-nil before) ∙ (ap (λ (rows : List Stored). before ++ lines (rows_read first last rows)) (sym none) ∙ so_far.whole)
+pub lines_end : (left : List Row) → left ≡ [] → lines left ≡ []
+lines_end left none = ap lines none
 
--- a test that rows end at the end
-abbrev ended : Bool → List Stored → Result (List Stored) RowsRefusal
-ended whole rows = cond whole (Ok rows) (Err Unread)
+pub ruleset cell_by_cell = (begun_none, begun_whole, cells_end)
 
-by_end : (whole : Bool) (rows : List Stored) → is_ok (ended whole rows) ≡ true → (true ≡ true) × (value_or [] (ended whole rows) ≡ rows)
-by_end true rows checked = (refl, refl)
-by_end false rows checked = absurd (false≢true checked)
+pub ruleset row_by_row = (begun_none, begun_whole, lines_end)
 
--- the rows of a block that was checked are those of its bytes
-counted_is : (bytes : List ℕ) (read : Result (List Stored × ℕ) RowsRefusal) → is_ok (read >>= λ rows. cond (eqb rows.1 (length bytes)) (Ok rows.0) (Err Unread)) ≡ true
-    → (is_ok read ≡ true) × (value_or [] (read >>= λ rows. cond (eqb rows.1 (length bytes)) (Ok rows.0) (Err Unread)) ≡ rows_behind read)
-counted_is bytes (Ok rows) checked = by_end (eqb rows.1 (length bytes)) rows.0 checked
-counted_is bytes (Err e) checked = absurd (false≢true checked)
-
--- nothing is printed of a block that was checked
-pub prints_begin : (bytes : List ℕ) (first last count : ℕ) → is_ok (counted_rows (pos count) bytes) ≡ true
-    → IsPrinted (rows_at (count - 0) bytes 0) (first + 0) last [] (lines (rows_read first last (value_or [] (counted_rows (pos count) bytes))))
-unfolding counted_rows
-prints_begin bytes first last count checked =
-    let all : count - 0 ≡ count = omega arith in
-    let id : first + 0 ≡ first = omega arith in
-    let is = counted_is bytes (rows_at count bytes 0) checked in
-    rw (all, id) (record { checked = is.0; whole = ap (λ (rows : List Stored). lines (rows_read first last rows)) (sym is.1) })
-
--- ---- blocks
-
--- what is printed so far and what is still to print of the blocks that are left are the text, and ids reach to the end
-pub record ArePrinted (blocks : List Block) (next last : ℕ) (before text : List ℕ) : Type 0 where
-  pub checked : is_ok (rows_of blocks) ≡ true
-  pub whole : before ++ lines (rows_read next last (value_or [] (rows_of blocks))) ≡ text
-  pub fits : next + length (value_or [] (rows_of blocks)) < 2 ^ 63
-
--- ids go on behind the rows before
-read_append : (first last : ℕ) (rows others : List Stored) → rows_read first last (rows ++ others) ≡ rows_read first last rows ++ rows_read (first + length rows) last others
-read_append first last [] others = ap (λ (id : ℕ). rows_read id last others) (omega arith)
-read_append first last (row ∷ rows) others =
-    let id : first + 1 + length rows ≡ first + length (row ∷ rows) = omega arith in
-    ap (λ (l : List Row). record { id = first; last = last; stored = row } ∷ l) (read_append (first + 1) last rows others ∙ ap (λ (n : ℕ). rows_read (first + 1) last rows ++ rows_read n last others) id)
-
-lines_append : (first last : ℕ) (rows others : List Stored) → lines (rows_read first last (rows ++ others)) ≡ lines (rows_read first last rows) ++ lines (rows_read (first + length rows) last others)
-lines_append first last rows others = ap lines (read_append first last rows others) ∙ flat_map-append row_line (rows_read first last rows) (rows_read (first + length rows) last others)
-
--- a block is printed, and others are left
-pub record BlockIsPrinted (block : Block) (others : List Block) (next last : ℕ) (before text : List ℕ) : Type 0 where
-  pub checked : is_ok (counted_rows block.count block.bytes) ≡ true
-  pub fits : next + length (value_or [] (counted_rows block.count block.bytes)) < 2 ^ 63
-  pub left : ArePrinted others (next + length (value_or [] (counted_rows block.count block.bytes))) last (before ++ lines (rows_read next last (value_or [] (counted_rows block.count block.bytes)))) text
-
-block_step : (block : Block) (others : List Block) (next last : ℕ) (before text : List ℕ) (first left : Result (List Stored) RowsRefusal) → counted_rows block.count block.bytes ≡ first → rows_of others ≡ left
-    → is_ok (first >>= λ rows. left >>= λ more. Ok (rows ++ more)) ≡ true → before ++ lines (rows_read next last (value_or [] (first >>= λ rows. left >>= λ more. Ok (rows ++ more)))) ≡ text
-    → next + length (value_or [] (first >>= λ rows. left >>= λ more. Ok (rows ++ more))) < 2 ^ 63 → BlockIsPrinted block others next last before text
-block_step block others next last before text (Ok rows) (Ok more) here there checked whole fits =
-    let many : length (rows ++ more) ≡ length rows + length more = length-append rows more in
-    record {
-      checked = rw here refl;
-      fits = rw here (omega (arith, many));
-      left = record {
-        checked = rw there refl;
-        whole = rw (here, there) (append_assoc before (lines (rows_read next last rows)) (lines (rows_read (next + length rows) last more)) ∙ (ap (λ (l : List ℕ). before ++ l) (sym (lines_append next last rows more)) ∙ whole));
-        fits = rw (here, there) (omega (arith, many));
-      };
-    }
-block_step block others next last before text (Ok rows) (Err e) here there checked whole fits = absurd (false≢true checked)
-block_step block others next last before text (Err e) left here there checked whole fits = absurd (false≢true checked)
-
-pub prints_block : (blocks : List Block) (block : Block) (others : List Block) (next last : ℕ) (before text : List ℕ) → blocks ≡ block ∷ others → ArePrinted blocks next last before text → BlockIsPrinted block others next last before text
-unfolding rows_of
-prints_block blocks block others next last before text is so_far =
-    let same = subst (λ (bs : List Block). ArePrinted bs next last before text) is so_far in
-    block_step block others next last before text (counted_rows block.count block.bytes) (rows_of others) refl refl same.checked same.whole same.fits
-
--- no block is left
-pub blocks_printed : (blocks : List Block) (next last : ℕ) (before text : List ℕ) → blocks ≡ [] → ArePrinted blocks next last before text → before ≡ text
-unfolding rows_of
-blocks_printed blocks next last before text none so_far =
-    let same = subst (λ (bs : List Block). ArePrinted bs next last before text) none so_far in
-    sym (append-nil before) ∙ same.whole
-
--- a block that was checked has a count that is not below 0, and as many rows
-pub block_count : (count : ℤ) (bytes : List ℕ) → is_ok (counted_rows count bytes) ≡ true → (n : ℕ) × (count ≡ pos n) × (length (value_or [] (counted_rows count bytes)) ≡ n)
-unfolding counted_rows
-block_count (pos n) bytes checked =
-    let is = counted_is bytes (rows_at n bytes 0) checked in
-    (n, refl, ap length is.1 ∙ as_many (rows_at n bytes 0) n (rows_many n bytes 0) is.0)
-  where
-    as_many : (read : Result (List Stored × ℕ) RowsRefusal) (n : ℕ) → ((rows : List Stored × ℕ) → read ≡ Ok rows → length rows.0 ≡ n) → is_ok read ≡ true → length (rows_behind read) ≡ n
-    as_many (Ok rows) n many ok = many rows refl
-    as_many (Err e) n many ok = absurd (false≢true ok)
-block_count (negsuc n) bytes checked = absurd (false≢true checked)
-
--- the same of a block whose count is a natural number
-pub record CountIsPrinted (count : ℕ) (bytes : List ℕ) (others : List Block) (next last : ℕ) (before text : List ℕ) : Type 0 where
-  pub checked : is_ok (counted_rows (pos count) bytes) ≡ true
-  pub fits : next + count < 2 ^ 63
-  pub left : ArePrinted others (next + count) last (before ++ lines (rows_read next last (value_or [] (counted_rows (pos count) bytes)))) text
-
-pub prints_count : (blocks : List Block) (count : ℤ) (n : ℕ) (bytes : List ℕ) (others : List Block) (next last : ℕ) (before text : List ℕ) → blocks ≡ record { count = count; bytes = bytes } ∷ others → ArePrinted blocks next last before text
-    → count ≡ pos n → length (value_or [] (counted_rows (pos n) bytes)) ≡ n → CountIsPrinted n bytes others next last before text
-prints_count blocks count n bytes others next last before text is so_far natural many =
-    let block : Block = record { count = pos n; bytes = bytes } in
-    let here : blocks ≡ block ∷ others = is ∙ ap (λ (z : ℤ). record { count = z; bytes = bytes } ∷ others) natural in
-    let step = prints_block blocks block others next last before text here so_far in
-    record {
-      checked = step.checked;
-      fits = omega (arith, step.fits, many);
-      left = subst (λ (m : ℕ). ArePrinted others (next + m) last (before ++ lines (rows_read next last (value_or [] (counted_rows (pos n) bytes)))) text) many step.left;
-    }
+pub ruleset byte_by_byte = (begun_none, begun_whole, digits_end)

@@ -1,18 +1,12 @@
 -- Why a run ended so whose input was read, and one whose input was not.
-use Rattle.std.proofs.Common.{◌≡◌, ◌<◌, ◌≤◌, ◌+◌, ◌∙◌, ℕ, Bool, true, false, cond, List, length, Option, Some, None, Result, Ok, Err, refl, sym, ap, subst, arith, inr}
+use Rattle.std.proofs.Common.{◌≡◌, ◌<◌, ◌≤◌, ◌+◌, ◌∙◌, ℕ, Bool, true, false, cond, List, length, Option, Some, None, Result, Err, refl, sym, ap, subst, arith, inr}
 use Rattle.std.specs.Bool.{OnFalse}
 use Rattle.std.proofs.lemmas.Bool.{le-ltb, lt-ltb}
 use Rattle.std.specs.Io.KnownBytes.{Keeps}
-use Rattle.words.specs.Reading.{◌>>=◌, map_refusal}
-use Rattle.words.specs.Laws.{refused_so}
 use Rattle.lineage_cli.specs.declared.command.Command.{Command}
-use Rattle.lineage_cli.specs.declared.command.Command.TheVariants as commands
 use Rattle.lineage_cli.specs.declared.ending.Ending.{Ending}
 use Rattle.lineage_cli.specs.declared.ending.Ending.TheVariants.{Usage, InputFault, InputLimit, Input, Table, Illegal, OutFault, Memory}
-use Rattle.lineage_cli.specs.declared.rows.RowsRefusal.{RowsRefusal}
 use Rattle.lineage_cli.specs.Input.{most_input}
-use Rattle.lineage_cli.specs.Rows.{Stored, stored_rows, rows_read}
-use Rattle.lineage_cli.specs.Text.{lines}
 use Rattle.lineage_cli.specs.Run.{answer_of, answer_to, Stream, is_memory, IsOutcome, IsRefused, WhyNotRead, IsReason}
 use Rattle.lineage_cli.proofs.OutputLemmas.{begins_still}
 
@@ -59,23 +53,6 @@ pub refused_within : (command : Command) (bytes : List ℕ) (ending : Ending) (o
     → OnFalse (is_memory ending) (answer_of command bytes ≡ Err ending) → IsOutcome (answer_to command bytes) out out (Err ending)
 refused_within command bytes ending out few answers refused =
     subst (λ (answer : Result (List ℕ) Ending). IsOutcome answer out out (Err ending)) (sym (answer_within command bytes few)) (refused_outcome (answer_of command bytes) ending out answers refused)
-
--- the answer of rows read, or refused
-abbrev rows_answer : ℕ → ℕ → Result (List Stored) RowsRefusal → Result (List ℕ) Ending
-rows_answer first sequence read = map_refusal Table read >>= λ rows. Ok (lines (rows_read first sequence rows))
-
-rows_answers : (first sequence : ℕ) (read : Result (List Stored) RowsRefusal) (ending : Ending) → rows_answer first sequence read ≡ Err ending → is_answer ending ≡ true
-rows_answers first sequence (Ok rows) ending refused = absurd cc
-rows_answers first sequence (Err why) ending refused = let e : Table why ≡ ending = cc in sym (ap is_answer e)
-
-rows_so : (first sequence : ℕ) (read : Result (List Stored) RowsRefusal) (ending : Ending) → OnFalse (is_memory ending) (map_refusal Table read ≡ Err ending) → OnFalse (is_memory ending) (rows_answer first sequence read ≡ Err ending)
-rows_so first sequence read ending refused = refused_so (is_memory ending) (ap (λ (r : Result (List Stored) Ending). r >>= λ rows. Ok (lines (rows_read first sequence rows)))) refused
-
--- rows that are refused, or for which memory ran out
-pub refused_rows : (first sequence : ℕ) (bytes : List ℕ) (ending : Ending) (out : Stream) → length bytes ≤ most_input (commands.Rows first sequence) → OnFalse (is_memory ending) (map_refusal Table (stored_rows first bytes) ≡ Err ending)
-    → IsOutcome (answer_to (commands.Rows first sequence) bytes) out out (Err ending)
-refused_rows first sequence bytes ending out few refused =
-    refused_within (commands.Rows first sequence) bytes ending out few (rows_answers first sequence (stored_rows first bytes)) (rows_so first sequence (stored_rows first bytes) ending refused)
 
 -- ---- the input was not read
 

@@ -1,29 +1,67 @@
 -- How a run ends that doesn't answer: its status, and its one line.
-use Rattle.std.specs.Prelude.{ℕ, ◌+◌, List, ◌++◌, codes, decimal}
+use Rattle.std.specs.Prelude.{ℕ, ℤ, List, ◌++◌, codes, decimal}
 use Rattle.std.specs.Fmt.{signed_decimal}
 use Rattle.hex.specs.Hex.{encode_lower}
-use Rattle.avro_container.specs.declared.refusal.ContainerRefusal.TheVariants as container
-use Rattle.lineage_cli.specs.declared.rows.RowsRefusal.{RowsRefusal}
-use Rattle.lineage_cli.specs.declared.rows.RowsRefusal.TheVariants.{Container, OnlyS1, Unread, IdsSpent}
-use Rattle.lineage_cli.specs.declared.rows.RowsRefusal.TheVariants as refusals
+use Rattle.lt_base.specs.declared.which.Which.{Which}
+use Rattle.lt_base.specs.declared.which.Which.TheVariants.{Object}
+use Rattle.lt_base.specs.Which.{name_of as name_of_limit}
+use Rattle.pieces.specs.Literal.{literal_text}
+use Rattle.avro_container.specs.declared.refusal.ContainerRefusal.{ContainerRefusal}
+use Rattle.avro_container.specs.declared.refusal.ContainerRefusal.TheVariants as containers
+use Rattle.avro_schema.specs.declared.refusal.SchemaRefusal.{SchemaRefusal}
+use Rattle.avro_schema.specs.declared.refusal.SchemaRefusal.TheVariants as schemas
+use Rattle.avro_datum.specs.declared.refusal.DatumRefusal.{DatumRefusal}
+use Rattle.avro_datum.specs.declared.refusal.DatumRefusal.TheVariants as datums
+use Rattle.row_file.specs.declared.refusal.RowRefusal.{RowRefusal}
+use Rattle.row_file.specs.declared.refusal.RowRefusal.TheVariants as refusals
 use Rattle.lineage_cli.specs.declared.ending.Ending.{Ending}
 use Rattle.lineage_cli.specs.declared.ending.Ending.TheVariants.{Usage, InputFault, InputLimit, Input, Table, Illegal, OutFault, Memory}
 use Rattle.lineage_model.specs.RuleName.{name_of}
 
+-- ---- the status
+
+-- 3 for bytes that are no container, 7 where they are too many, 6 for want of memory
+abbrev pub container_status : ContainerRefusal → ℕ
+container_status (containers.Limit found) = 7
+container_status containers.Memory = 6
+container_status containers.Magic = 3
+container_status (containers.Header place) = 3
+container_status (containers.Codec name) = 3
+container_status (containers.Short place) = 3
+container_status (containers.Form block) = 3
+container_status (containers.Sync block) = 3
+
+-- 3 for a text that is no schema, 6 for want of memory
+abbrev pub schema_status : SchemaRefusal → ℕ
+schema_status schemas.Memory = 6
+schema_status schemas.NotJson = 3
+schema_status (schemas.Form path) = 3
+schema_status (schemas.Unknown name) = 3
+schema_status schemas.Nesting = 3
+
+-- 3 for bytes that are no row, 6 for want of memory
+abbrev pub datum_status : DatumRefusal → ℕ
+datum_status datums.Memory = 6
+datum_status (datums.Short place) = 3
+datum_status (datums.TooLong place) = 3
+datum_status (datums.Flag place) = 3
+datum_status (datums.Branch place) = 3
+datum_status (datums.Utf8 place) = 3
+datum_status (datums.Size place) = 3
+datum_status (datums.Items place) = 3
+
 -- 3 for a file that is refused, 7 where a limit is passed, 6 for want of memory
-abbrev pub table_status : RowsRefusal → ℕ
-table_status (Container (container.Limit found)) = 7
-table_status (Container container.Memory) = 6
+abbrev pub table_status : RowRefusal → ℕ
+table_status (refusals.Container refusal) = container_status refusal
+table_status (refusals.Schema refusal) = schema_status refusal
+table_status (refusals.Datum refusal) = datum_status refusal
+table_status (refusals.Limit which found) = 7
 table_status refusals.Memory = 6
-table_status (Container container.Magic) = 3
-table_status (Container (container.Header place)) = 3
-table_status (Container (container.Codec name)) = 3
-table_status (Container (container.Short place)) = 3
-table_status (Container (container.Form block)) = 3
-table_status (Container (container.Sync block)) = 3
-table_status OnlyS1 = 3
-table_status Unread = 3
-table_status (IdsSpent first rows) = 3
+table_status (refusals.MissingColumn id) = 3
+table_status (refusals.Kind id) = 3
+table_status (refusals.Rest block) = 3
+table_status (refusals.RecordCount told found) = 3
+table_status (refusals.IdsSpent first rows) = 3
 
 -- the status of an ending
 abbrev pub status_of : Ending → ℕ
@@ -36,23 +74,69 @@ status_of (InputLimit found) = 7
 status_of (Input line) = 2
 status_of (Illegal entry rule) = 4
 
+-- ---- the line
+
 -- a line that ends with a number
 abbrev numbered : List ℕ → ℕ → List ℕ
 numbered front number = front ++ (decimal number ++ codes "\n")
 
+-- a line that ends with an id
+abbrev with_id : List ℕ → ℤ → List ℕ
+with_id front id = front ++ (signed_decimal id ++ codes "\n")
+
+-- a line that ends with two numbers
+abbrev with_both : List ℕ → ℤ → ℤ → List ℕ
+with_both front first second = front ++ ((signed_decimal first ++ (codes " " ++ signed_decimal second)) ++ codes "\n")
+
+-- a line that ends with a text between quotes
+abbrev quoted : List ℕ → List ℕ → List ℕ
+quoted front text = front ++ (literal_text text ++ codes "\n")
+
+-- a line that tells a limit by its name, up to how much was found
+abbrev pub limit_front : Which → List ℕ
+limit_front which = codes "rowline: limit " ++ (name_of_limit which ++ codes " ")
+
+-- the line for bytes that are no container
+abbrev pub container_line : ContainerRefusal → List ℕ
+container_line (containers.Limit found) = numbered (limit_front Object) found
+container_line containers.Magic = codes "rowline: table Magic\n"
+container_line (containers.Header place) = numbered (codes "rowline: table Header ") place
+container_line (containers.Codec name) = codes "rowline: table Codec x" ++ (encode_lower name ++ codes "\n")
+container_line (containers.Short place) = numbered (codes "rowline: table Short ") place
+container_line (containers.Form block) = numbered (codes "rowline: table Form ") block
+container_line (containers.Sync block) = numbered (codes "rowline: table Sync ") block
+container_line containers.Memory = codes "rowline: memory\n"
+
+-- the line for a text that is no schema
+abbrev pub schema_line : SchemaRefusal → List ℕ
+schema_line schemas.NotJson = codes "rowline: table NotJson\n"
+schema_line (schemas.Form path) = quoted (codes "rowline: table Form ") path
+schema_line (schemas.Unknown name) = quoted (codes "rowline: table Unknown ") name
+schema_line schemas.Nesting = codes "rowline: table Nesting\n"
+schema_line schemas.Memory = codes "rowline: memory\n"
+
+-- the line for bytes that are no row
+abbrev pub datum_line : DatumRefusal → List ℕ
+datum_line (datums.Short place) = numbered (codes "rowline: table Short ") place
+datum_line (datums.TooLong place) = numbered (codes "rowline: table TooLong ") place
+datum_line (datums.Flag place) = numbered (codes "rowline: table Flag ") place
+datum_line (datums.Branch place) = numbered (codes "rowline: table Branch ") place
+datum_line (datums.Utf8 place) = numbered (codes "rowline: table Utf8 ") place
+datum_line (datums.Size place) = numbered (codes "rowline: table Size ") place
+datum_line (datums.Items place) = numbered (codes "rowline: table Items ") place
+datum_line datums.Memory = codes "rowline: memory\n"
+
 -- the line for a file that is refused
-abbrev pub table_line : RowsRefusal → List ℕ
-table_line (Container (container.Limit found)) = numbered (codes "rowline: limit Object ") found
-table_line (Container container.Magic) = codes "rowline: table Magic\n"
-table_line (Container (container.Header place)) = numbered (codes "rowline: table Header ") place
-table_line (Container (container.Codec name)) = codes "rowline: table Codec x" ++ (encode_lower name ++ codes "\n")
-table_line (Container (container.Short place)) = numbered (codes "rowline: table Short ") place
-table_line (Container (container.Form block)) = numbered (codes "rowline: table Form ") block
-table_line (Container (container.Sync block)) = numbered (codes "rowline: table Sync ") block
-table_line (Container container.Memory) = codes "rowline: memory\n"
-table_line OnlyS1 = codes "rowline: table OnlyS1\n"
-table_line Unread = codes "rowline: table Unread\n"
-table_line (IdsSpent first rows) = codes "rowline: table IdsSpent " ++ ((signed_decimal first ++ (codes " " ++ signed_decimal rows)) ++ codes "\n")
+abbrev pub table_line : RowRefusal → List ℕ
+table_line (refusals.Container refusal) = container_line refusal
+table_line (refusals.Schema refusal) = schema_line refusal
+table_line (refusals.MissingColumn id) = with_id (codes "rowline: table MissingColumn ") id
+table_line (refusals.Kind id) = with_id (codes "rowline: table Kind ") id
+table_line (refusals.Datum refusal) = datum_line refusal
+table_line (refusals.Rest block) = numbered (codes "rowline: table Rest ") block
+table_line (refusals.RecordCount told found) = with_both (codes "rowline: table RecordCount ") told found
+table_line (refusals.IdsSpent first rows) = with_both (codes "rowline: table IdsSpent ") first rows
+table_line (refusals.Limit which found) = numbered (limit_front which) found
 table_line refusals.Memory = codes "rowline: memory\n"
 
 -- the line of an ending

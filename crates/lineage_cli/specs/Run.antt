@@ -14,13 +14,13 @@ use Rattle.lineage_cli.specs.Command.{Asks}
 use Rattle.lineage_cli.specs.Ending.{status_of, line_of}
 use Rattle.lineage_cli.specs.Input.{most_input, StopsBy}
 use Rattle.lineage_cli.specs.Output.{AppendsFront, Puts}
-use Rattle.lineage_cli.specs.Rows.{stored_rows, rows_read}
+use Rattle.lineage_cli.specs.Rows.{file_rows}
 use Rattle.lineage_cli.specs.Text.{lines}
 use Rattle.lineage_cli.specs.Audit.{audit_answer}
 
 -- what the command prints for bytes that are not too many, or how it ends
 abbrev pub answer_of : Command → List ℕ → Result (List ℕ) Ending
-answer_of (Rows first sequence) bytes = map_refusal Table (stored_rows first bytes) >>= λ rows. Ok (lines (rows_read first sequence rows))
+answer_of (Rows first sequence) bytes = map_refusal Table (file_rows first sequence bytes) >>= λ rows. Ok (lines rows)
 answer_of Audit bytes = audit_answer bytes
 
 -- what the command prints for these bytes, or how it ends

@@ -2,20 +2,27 @@
 
 ghost use Rattle.std.specs.Prelude.{◌≡◌, ◌++◌, codes, decimal, IsErrOf};
 ghost use Rattle.std.specs.Fmt.{signed_decimal};
+ghost use Rattle.pieces.specs.Literal.{literal_text};
 ghost use Rattle.lineage_model.specs.RuleName.{name_of};
 ghost use Rattle.lt_port.specs.Faults.{HasCause};
-ghost use Rattle.lineage_cli.specs.Ending.{status_of as status, line_of, table_status, table_line};
+ghost use Rattle.lineage_cli.specs.Ending.{status_of as status, table_status};
+ghost use Rattle.lineage_cli.specs.Ending.{line_of, limit_front as front_of, table_line};
+ghost use Rattle.lineage_cli.specs.Ending.{container_line, schema_line, datum_line};
 ghost use Rattle.lineage_cli.specs.Line.{detail_text};
 ghost use Rattle.lineage_cli.specs.Output.{Puts};
 ghost use Rattle.lineage_cli.specs.Run.{IsTold};
 
 use crate::output::write_all;
-use crate::rows::RowsRefusal;
 use avro_container::ContainerRefusal;
-use avro_wire::Bytes;
+use avro_datum::DatumRefusal;
+use avro_schema::SchemaRefusal;
+use avro_wire::{Bytes, Text};
 use itoa::Buffer;
 use lineage_model::Rule;
+use lt_base::Which;
 use lt_port::{PortError, Sink};
+use pieces::put_literal;
+use row_file::RowRefusal;
 use std::alloc::Global;
 
 /// Why a run doesn't answer.
@@ -30,7 +37,7 @@ pub enum Ending {
     /// The line of the input, counted from 1, is wrong, and none before it.
     Input { line: u64 },
     /// The file is refused.
-    Table(RowsRefusal),
+    Table(RowRefusal),
     /// The entry of the history, counted from 1, breaks this rule, and none before it. Entry 0 is
     /// the state that the history begins with.
     Illegal { entry: u64, rule: Rule },
@@ -65,16 +72,23 @@ pub fn tell<E: Sink>(alloc: Global, err: &mut E, ending: &Ending)
 }
 
 /// The exit status for a file that is refused.
-fn status_of_table(refusal: &RowsRefusal) -> u8
+fn status_of_table(refusal: &RowRefusal) -> u8
     ensures { result ≡ table_status refusal.now }
 {
     match refusal {
-        RowsRefusal::Container(ContainerRefusal::Limit { .. }) => 7,
-        RowsRefusal::Container(ContainerRefusal::Memory) | RowsRefusal::Memory => 6,
-        RowsRefusal::Container(_)
-        | RowsRefusal::OnlyS1
-        | RowsRefusal::Unread
-        | RowsRefusal::IdsSpent { .. } => 3,
+        RowRefusal::Container(ContainerRefusal::Limit { .. }) | RowRefusal::Limit { .. } => 7,
+        RowRefusal::Container(ContainerRefusal::Memory)
+        | RowRefusal::Schema(SchemaRefusal::Memory)
+        | RowRefusal::Datum(DatumRefusal::Memory)
+        | RowRefusal::Memory => 6,
+        RowRefusal::Container(_)
+        | RowRefusal::Schema(_)
+        | RowRefusal::MissingColumn { .. }
+        | RowRefusal::Kind { .. }
+        | RowRefusal::Datum(_)
+        | RowRefusal::Rest { .. }
+        | RowRefusal::RecordCount { .. }
+        | RowRefusal::IdsSpent { .. } => 3,
     }
 }
 
@@ -95,8 +109,10 @@ fn write_line<E: Sink>(alloc: Global, err: &mut E, ending: &Ending) -> Result<()
 enum Detail<'a> {
     Nothing,
     Number(u64),
+    Id(i32),
     Numbers(i64, i64),
     Hex(&'a Bytes),
+    Quoted(&'a Text),
     Broken(u64, Rule),
 }
 
@@ -119,27 +135,36 @@ fn line_parts(ending: &Ending) -> (&'static [u8], Detail<'_>)
 }
 
 /// The same of a file that is refused.
-fn table_parts(refusal: &RowsRefusal) -> (&'static [u8], Detail<'_>)
+fn table_parts(refusal: &RowRefusal) -> (&'static [u8], Detail<'_>)
     ensures { table_line refusal.now ≡ result.0.now ++ (detail_text result.1 ++ codes "\n") }
 {
     match refusal {
-        RowsRefusal::Container(refusal) => container_parts(refusal),
-        RowsRefusal::OnlyS1 => (b"rowline: table OnlyS1", Detail::Nothing),
-        RowsRefusal::Unread => (b"rowline: table Unread", Detail::Nothing),
-        RowsRefusal::IdsSpent { first, rows } => {
+        RowRefusal::Container(refusal) => container_parts(refusal),
+        RowRefusal::Schema(refusal) => schema_parts(refusal),
+        RowRefusal::MissingColumn { id } => (b"rowline: table MissingColumn ", Detail::Id(*id)),
+        RowRefusal::Kind { id } => (b"rowline: table Kind ", Detail::Id(*id)),
+        RowRefusal::Datum(refusal) => datum_parts(*refusal),
+        RowRefusal::Rest { block } => (b"rowline: table Rest ", Detail::Number(*block)),
+        RowRefusal::RecordCount { told, found } => {
+            (
+                b"rowline: table RecordCount ",
+                Detail::Numbers(*told, *found),
+            )
+        }
+        RowRefusal::IdsSpent { first, rows } => {
             (b"rowline: table IdsSpent ", Detail::Numbers(*first, *rows))
         }
-        RowsRefusal::Memory => (b"rowline: memory", Detail::Nothing),
+        RowRefusal::Limit { which, found } => (limit_front(*which), Detail::Number(*found)),
+        RowRefusal::Memory => (b"rowline: memory", Detail::Nothing),
     }
 }
 
 /// The same of bytes that are no container.
 fn container_parts(refusal: &ContainerRefusal) -> (&'static [u8], Detail<'_>)
-    ensures { table_line (RowsRefusal.Container refusal.now)
-        ≡ result.0.now ++ (detail_text result.1 ++ codes "\n") }
+    ensures { container_line refusal.now ≡ result.0.now ++ (detail_text result.1 ++ codes "\n") }
 {
     match refusal {
-        ContainerRefusal::Limit { found } => (b"rowline: limit Object ", Detail::Number(*found)),
+        ContainerRefusal::Limit { found } => (limit_front(Which::Object), Detail::Number(*found)),
         ContainerRefusal::Magic => (b"rowline: table Magic", Detail::Nothing),
         ContainerRefusal::Header { place } => (b"rowline: table Header ", Detail::Number(*place)),
         ContainerRefusal::Codec { name } => (b"rowline: table Codec x", Detail::Hex(name)),
@@ -147,6 +172,51 @@ fn container_parts(refusal: &ContainerRefusal) -> (&'static [u8], Detail<'_>)
         ContainerRefusal::Form { block } => (b"rowline: table Form ", Detail::Number(*block)),
         ContainerRefusal::Sync { block } => (b"rowline: table Sync ", Detail::Number(*block)),
         ContainerRefusal::Memory => (b"rowline: memory", Detail::Nothing),
+    }
+}
+
+/// The same of a text that is no schema.
+fn schema_parts(refusal: &SchemaRefusal) -> (&'static [u8], Detail<'_>)
+    ensures { schema_line refusal.now ≡ result.0.now ++ (detail_text result.1 ++ codes "\n") }
+{
+    match refusal {
+        SchemaRefusal::NotJson => (b"rowline: table NotJson", Detail::Nothing),
+        SchemaRefusal::Form { path } => (b"rowline: table Form ", Detail::Quoted(path)),
+        SchemaRefusal::Unknown { name } => (b"rowline: table Unknown ", Detail::Quoted(name)),
+        SchemaRefusal::Nesting => (b"rowline: table Nesting", Detail::Nothing),
+        SchemaRefusal::Memory => (b"rowline: memory", Detail::Nothing),
+    }
+}
+
+/// The same of bytes that are no row.
+fn datum_parts(refusal: DatumRefusal) -> (&'static [u8], Detail<'static>)
+    ensures { datum_line refusal ≡ result.0.now ++ (detail_text result.1 ++ codes "\n") }
+{
+    match refusal {
+        DatumRefusal::Short { place } => (b"rowline: table Short ", Detail::Number(place)),
+        DatumRefusal::TooLong { place } => (b"rowline: table TooLong ", Detail::Number(place)),
+        DatumRefusal::Flag { place } => (b"rowline: table Flag ", Detail::Number(place)),
+        DatumRefusal::Branch { place } => (b"rowline: table Branch ", Detail::Number(place)),
+        DatumRefusal::Utf8 { place } => (b"rowline: table Utf8 ", Detail::Number(place)),
+        DatumRefusal::Size { place } => (b"rowline: table Size ", Detail::Number(place)),
+        DatumRefusal::Items { place } => (b"rowline: table Items ", Detail::Number(place)),
+        DatumRefusal::Memory => (b"rowline: memory", Detail::Nothing),
+    }
+}
+
+/// The front of the line for a limit that is passed.
+fn limit_front(which: Which) -> &'static [u8]
+    ensures { result.now ≡ front_of which }
+{
+    match which {
+        Which::Input => b"rowline: limit Input ",
+        Which::Object => b"rowline: limit Object ",
+        Which::Path => b"rowline: limit Path ",
+        Which::Snapshots => b"rowline: limit Snapshots ",
+        Which::Manifests => b"rowline: limit Manifests ",
+        Which::Files => b"rowline: limit Files ",
+        Which::FileRows => b"rowline: limit FileRows ",
+        Which::LiveRows => b"rowline: limit LiveRows ",
     }
 }
 
@@ -160,13 +230,29 @@ fn write_detail<E: Sink>(alloc: Global, err: &mut E, detail: Detail<'_>) -> Resu
     match detail {
         Detail::Nothing => Ok(()),
         Detail::Number(number) => write_all(err, digits.format(number).as_bytes()),
+        Detail::Id(id) => write_all(err, digits.format(id).as_bytes()),
         Detail::Numbers(first, second) => write_numbers(err, first, second),
         Detail::Broken(entry, rule) => write_broken(err, entry, rule),
+        Detail::Quoted(text) => write_quoted(alloc, err, text.as_str()),
         Detail::Hex(bytes) => match hex::encode(alloc, bytes.as_slice()) {
             Ok(text) => write_all(err, text.as_bytes()),
             Err(_) => Err(PortError::Memory),
         },
     }
+}
+
+/// Writes the text between quotes.
+#[tactic(auto, using(crate::proofs::OutputLemmas::begins_still))]
+fn write_quoted<E: Sink>(alloc: Global, err: &mut E, text: &str) -> Result<(), PortError>
+    ensures text { Puts (E.written err.old) (E.written err.new) result (literal_text text.now) }
+    ensures cause { HasCause (E.faults err.old) (E.faults err.new)
+        (IsErrOf result PortError.Failed) }
+{
+    let mut literal = String::new(alloc);
+    if put_literal(&mut literal, text).is_err() {
+        return Err(PortError::Memory);
+    }
+    write_all(err, literal.as_bytes())
 }
 
 /// Writes the number of an entry, a space and the name of a rule.

@@ -6,7 +6,7 @@
 //! | `command` | what the words of a command line ask for |
 //! | `run` | a run of the program over any source and sinks |
 //! | `input`, `output` | reading a source to its end, writing text to a sink |
-//! | `rows` | the rows of a data file of the accepted schema |
+//! | `rows` | answering with the rows of a data file |
 //! | `audit` | answering whether the history of a report is legal |
 //! | `printing` | printing rows, one line each |
 //! | `ending` | the status and the line of a run that doesn't answer |
@@ -22,6 +22,8 @@ mod input;
 mod output;
 mod printing;
 mod rows;
+#[cfg(test)]
+mod rows_tests;
 mod run;
 mod standard;
 #[cfg(test)]

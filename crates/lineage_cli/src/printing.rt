@@ -1,160 +1,100 @@
 //! Printing rows, one line each.
 
-ghost use Rattle.std.specs.Prelude.{◌≡◌, ◌+◌, ◌<◌, ◌≤◌, ◌^◌, ◌++◌, List, ℕ, [], true, pos, decimal, codes, length, ◌∷◌, is_ok, slice_range, IsErrOf, IfSome, MatchOption};
+ghost use Rattle.std.specs.Prelude.{◌≡◌, ◌++◌, [], ◌∷◌, map, codes, IsErrOf, MatchOption};
 ghost use Rattle.std.specs.Fmt.{signed_decimal};
 ghost use Rattle.std.specs.List.{flat_map};
-ghost use Rattle.std.specs.Option.{option_map};
-ghost use Rattle.words.specs.Reading.{value_or};
+ghost use Rattle.hex.specs.Hex.{encode_lower};
 ghost use Rattle.lt_port.specs.Faults.{HasCause};
+ghost use Rattle.pieces.specs.Number.{optional_text};
+ghost use Rattle.pieces.specs.Literal.{escape as escape_of, literal_text};
+ghost use Rattle.pieces.specs.HexLiteral.{hex_text};
+ghost use Rattle.row_pred.specs.Cell.{cell_text};
+ghost use Rattle.row_pred.specs.Cells.{spaced_text, cells_text};
+ghost use Rattle.row_file.specs.Cell.{lent_cell};
 ghost use Rattle.lineage_cli.specs.Output.{Puts, Shows};
-ghost use Rattle.lineage_cli.specs.Rows.{stored_of, rows_of, counted_rows, rows_read};
-ghost use Rattle.pieces.specs.Literal.{escape as escape_of};
-ghost use Rattle.lineage_cli.specs.Text.{cell_text, spaced, row_line, lines};
+ghost use Rattle.lineage_cli.specs.Text.{spaced, row_line, lines};
 
 use crate::output::{flush, put};
-use crate::rows::{Found, take_row};
-use avro_container::Walk;
 use itoa::Buffer;
 use lt_port::{PortError, Sink};
+use row_file::{CellRef, CheckedRows};
 use std::alloc::Global;
 
-/// Writes a line for each row of the walk, through one buffer. The rows were checked, and have ids
-/// from `first` on.
+/// The digits of bytes, by their values.
+const DIGITS: &[u8; 16] = b"0123456789abcdef";
+
+/// Writes a line for each of the rows, as they are shown, through one buffer.
 pub fn print_rows<W: Sink>(
     alloc: Global,
     out: &mut W,
-    first: u64,
-    last: u64,
-    walk: Walk<'_>,
+    rows: CheckedRows<'_>,
 ) -> Result<(), PortError>
-    requires checked { is_ok (rows_of walk.left) ≡ true }
-    requires fits { first + length (value_or [] (rows_of walk.left)) < 2 ^ 63 }
-    ensures text { Puts (W.written out.old) (W.written out.new) result
-        (lines (rows_read first last (value_or [] (rows_of walk.entry.left)))) }
+    ensures text { Puts (W.written out.old) (W.written out.new) result (lines rows.entry.left) }
     ensures cause { HasCause (W.faults out.old) (W.faults out.new)
         (IsErrOf result PortError.Failed) }
 {
     let mut buffer = Vec::new(alloc);
-    put_blocks(out, &mut buffer, first, last, walk)?;
+    put_rows(out, &mut buffer, rows)?;
     flush(out, &mut buffer)
 }
 
-/// Puts the lines of the blocks that are left, whose rows were checked: ids begin at `first`.
-fn put_blocks<W: Sink>(
-    out: &mut W,
-    buffer: &mut Vec<u8>,
-    first: u64,
-    last: u64,
-    mut walk: Walk<'_>,
-) -> Result<(), PortError>
-    requires checked { is_ok (rows_of walk.left) ≡ true }
-    requires fits { first + length (value_or [] (rows_of walk.left)) < 2 ^ 63 }
-    ensures text { Shows (W.written out.old) buffer.old.items
-        (W.written out.new) buffer.new.items result
-        (lines (rows_read first last (value_or [] (rows_of walk.entry.left)))) }
-    ensures cause { HasCause (W.faults out.old) (W.faults out.new)
-        (IsErrOf result PortError.Failed) }
-{
-    let mut next = first;
-    while let Some((count, bytes)) = walk.next() {
-        let count = count_of(count, bytes);
-        put_rows(out, buffer, next, last, count, bytes)?;
-        next += count;
-    }
-    Ok(())
-}
-
-/// How many rows a block has whose rows were checked.
-fn count_of(count: i64, bytes: &[u8]) -> u64
-    requires { is_ok (counted_rows count bytes.now) ≡ true }
-    ensures same { count ≡ pos result }
-    ensures many { length (value_or [] (counted_rows (pos result) bytes.now)) ≡ result }
-{
-    count as u64
-}
-
-/// Puts the lines of a block whose rows were checked: ids begin at `first`.
+/// Puts a line for each of the rows.
+#[tactic(auto, using(crate::proofs::PrintLemmas::row_by_row))]
 fn put_rows<W: Sink>(
     out: &mut W,
     buffer: &mut Vec<u8>,
-    first: u64,
-    last: u64,
-    count: u64,
-    bytes: &[u8],
+    mut rows: CheckedRows<'_>,
 ) -> Result<(), PortError>
-    requires checked { is_ok (counted_rows (pos count) bytes.now) ≡ true }
-    requires fits { first + count < 2 ^ 63 }
     ensures text { Shows (W.written out.old) buffer.old.items
         (W.written out.new) buffer.new.items result
-        (lines (rows_read first last (value_or [] (counted_rows (pos count) bytes.now)))) }
+        (lines rows.entry.left) }
     ensures cause { HasCause (W.faults out.old) (W.faults out.new)
         (IsErrOf result PortError.Failed) }
 {
-    let mut at = 0;
-    for index in 0..count {
-        let Ok((found, after)) = take_row(bytes, at) else {
-            return Ok(());
-        };
-        put_row(out, buffer, first + index, last, bytes, found)?;
-        at = after;
+    while rows.advance() {
+        put_row(out, buffer, &rows)?;
     }
     Ok(())
 }
 
-/// Puts the line of a row.
+/// Puts the line of the row that is shown.
 fn put_row<W: Sink>(
     out: &mut W,
     buffer: &mut Vec<u8>,
-    id: u64,
-    last: u64,
-    bytes: &[u8],
-    found: Found,
+    rows: &CheckedRows<'_>,
 ) -> Result<(), PortError>
-    requires { IfSome found.text (λ t. (t.0 ≤ t.1) × (t.1 ≤ length bytes.now)) }
     ensures text { Shows (W.written out.old) buffer.old.items
         (W.written out.new) buffer.new.items result
-        (row_line (record { id = id; last = last; stored = stored_of bytes.now found })) }
+        (row_line rows.now.row) }
     ensures cause { HasCause (W.faults out.old) (W.faults out.new)
         (IsErrOf result PortError.Failed) }
 {
-    put_numbers(out, buffer, id, last, found.number)?;
-    put_cell(out, buffer, bytes, found.text)?;
+    put_id(out, buffer, rows.id())?;
+    put_spaced_number(out, buffer, rows.last())?;
+    put_cells(out, buffer, rows.cells())?;
     put(out, buffer, b"\n")
 }
 
-/// Puts the numbers of a row, with a space behind each.
-fn put_numbers<W: Sink>(
+/// Puts the id of a row, or `-` where it has none, and a space.
+fn put_id<W: Sink>(out: &mut W, buffer: &mut Vec<u8>, id: Option<i64>) -> Result<(), PortError>
+    ensures text { Shows (W.written out.old) buffer.old.items
+        (W.written out.new) buffer.new.items result
+        (spaced (optional_text id)) }
+    ensures cause { HasCause (W.faults out.old) (W.faults out.new)
+        (IsErrOf result PortError.Failed) }
+{
+    match id {
+        None => put(out, buffer, b"- "),
+        Some(id) => put_spaced_number(out, buffer, id),
+    }
+}
+
+/// Puts the number, and a space.
+fn put_spaced_number<W: Sink>(
     out: &mut W,
     buffer: &mut Vec<u8>,
-    id: u64,
-    last: u64,
     number: i64,
 ) -> Result<(), PortError>
-    ensures text { Shows (W.written out.old) buffer.old.items
-        (W.written out.new) buffer.new.items result
-        (spaced (decimal id) ++ (spaced (decimal last) ++ spaced (signed_decimal number))) }
-    ensures cause { HasCause (W.faults out.old) (W.faults out.new)
-        (IsErrOf result PortError.Failed) }
-{
-    put_id(out, buffer, id)?;
-    put_id(out, buffer, last)?;
-    put_number(out, buffer, number)
-}
-
-/// Puts the number in decimal, and a space.
-fn put_id<W: Sink>(out: &mut W, buffer: &mut Vec<u8>, number: u64) -> Result<(), PortError>
-    ensures text { Shows (W.written out.old) buffer.old.items
-        (W.written out.new) buffer.new.items result
-        (decimal number ++ codes " ") }
-    ensures cause { HasCause (W.faults out.old) (W.faults out.new)
-        (IsErrOf result PortError.Failed) }
-{
-    let mut digits = Buffer::new();
-    put_both(out, buffer, digits.format(number).as_bytes(), b" ")
-}
-
-/// The same of a number with a sign.
-fn put_number<W: Sink>(out: &mut W, buffer: &mut Vec<u8>, number: i64) -> Result<(), PortError>
     ensures text { Shows (W.written out.old) buffer.old.items
         (W.written out.new) buffer.new.items result
         (signed_decimal number ++ codes " ") }
@@ -182,31 +122,95 @@ fn put_both<W: Sink>(
     put(out, buffer, second)
 }
 
-/// Puts the text that stands there between quotes, or null.
-fn put_cell<W: Sink>(
+/// Puts the cells, with a space between each two.
+fn put_cells<W: Sink>(
     out: &mut W,
     buffer: &mut Vec<u8>,
-    bytes: &[u8],
-    text: Option<(usize, usize)>,
+    cells: &[CellRef<'_>],
 ) -> Result<(), PortError>
-    requires { IfSome text (λ t. (t.0 ≤ t.1) × (t.1 ≤ length bytes.now)) }
     ensures text { Shows (W.written out.old) buffer.old.items
         (W.written out.new) buffer.new.items result
-        (cell_text (option_map (λ t. slice_range bytes.now t.0 t.1) text)) }
+        (cells_text (map lent_cell cells.now)) }
     ensures cause { HasCause (W.faults out.old) (W.faults out.new)
         (IsErrOf result PortError.Failed) }
 {
-    match text {
-        None => put(out, buffer, b"null"),
-        Some((start, end)) => put_literal(out, buffer, &bytes[start..end]),
+    let Some((first, others)) = cells.split_first() else {
+        return Ok(());
+    };
+    put_cell(out, buffer, *first)?;
+    put_others(out, buffer, others)
+}
+
+/// Puts the cells that stand behind another one.
+#[tactic(auto, using(crate::proofs::PrintLemmas::cell_by_cell))]
+fn put_others<W: Sink>(
+    out: &mut W,
+    buffer: &mut Vec<u8>,
+    cells: &[CellRef<'_>],
+) -> Result<(), PortError>
+    ensures text { Shows (W.written out.old) buffer.old.items
+        (W.written out.new) buffer.new.items result
+        (flat_map spaced_text (map lent_cell cells.now)) }
+    ensures cause { HasCause (W.faults out.old) (W.faults out.new)
+        (IsErrOf result PortError.Failed) }
+{
+    for cell in cells {
+        put_spaced(out, buffer, *cell)?;
     }
+    Ok(())
+}
+
+/// Puts a space, and the cell.
+fn put_spaced<W: Sink>(
+    out: &mut W,
+    buffer: &mut Vec<u8>,
+    cell: CellRef<'_>,
+) -> Result<(), PortError>
+    ensures text { Shows (W.written out.old) buffer.old.items
+        (W.written out.new) buffer.new.items result
+        (spaced_text (lent_cell cell.entry)) }
+    ensures cause { HasCause (W.faults out.old) (W.faults out.new)
+        (IsErrOf result PortError.Failed) }
+{
+    put(out, buffer, b" ")?;
+    put_cell(out, buffer, cell)
+}
+
+/// Puts the cell.
+fn put_cell<W: Sink>(out: &mut W, buffer: &mut Vec<u8>, cell: CellRef<'_>) -> Result<(), PortError>
+    ensures text { Shows (W.written out.old) buffer.old.items
+        (W.written out.new) buffer.new.items result
+        (cell_text (lent_cell cell.entry)) }
+    ensures cause { HasCause (W.faults out.old) (W.faults out.new)
+        (IsErrOf result PortError.Failed) }
+{
+    match cell {
+        CellRef::Null => put(out, buffer, b"null"),
+        CellRef::Flag(true) => put(out, buffer, b"true"),
+        CellRef::Flag(false) => put(out, buffer, b"false"),
+        CellRef::Num(number) => put_number(out, buffer, number),
+        CellRef::Text(text) => put_literal(out, buffer, text.as_bytes()),
+        CellRef::Bytes(bytes) => put_hex(out, buffer, bytes),
+    }
+}
+
+/// Puts the number in decimal.
+fn put_number<W: Sink>(out: &mut W, buffer: &mut Vec<u8>, number: i64) -> Result<(), PortError>
+    ensures text { Shows (W.written out.old) buffer.old.items
+        (W.written out.new) buffer.new.items result
+        (signed_decimal number) }
+    ensures cause { HasCause (W.faults out.old) (W.faults out.new)
+        (IsErrOf result PortError.Failed) }
+{
+    let mut digits = Buffer::new();
+    put(out, buffer, digits.format(number).as_bytes())
 }
 
 /// Puts the text between quotes.
 fn put_literal<W: Sink>(out: &mut W, buffer: &mut Vec<u8>, text: &[u8]) -> Result<(), PortError>
     ensures text { Shows (W.written out.old) buffer.old.items
         (W.written out.new) buffer.new.items result
-        (cell_text (Some text.now)) }
+        (literal_text text.now) }
     ensures cause { HasCause (W.faults out.old) (W.faults out.new)
         (IsErrOf result PortError.Failed) }
 {
@@ -245,4 +249,42 @@ fn escape(byte: u8) -> Option<&'static [u8]>
         b'\t' => Some(b"\\t"),
         _ => None,
     }
+}
+
+/// Puts an x, and two hexadecimal digits for each byte.
+fn put_hex<W: Sink>(out: &mut W, buffer: &mut Vec<u8>, bytes: &[u8]) -> Result<(), PortError>
+    ensures text { Shows (W.written out.old) buffer.old.items
+        (W.written out.new) buffer.new.items result
+        (hex_text bytes.now) }
+    ensures cause { HasCause (W.faults out.old) (W.faults out.new)
+        (IsErrOf result PortError.Failed) }
+{
+    put(out, buffer, b"x")?;
+    put_digits(out, buffer, bytes)
+}
+
+/// Puts two hexadecimal digits for each byte.
+#[tactic(auto, using(crate::proofs::PrintLemmas::byte_by_byte))]
+fn put_digits<W: Sink>(out: &mut W, buffer: &mut Vec<u8>, bytes: &[u8]) -> Result<(), PortError>
+    ensures text { Shows (W.written out.old) buffer.old.items
+        (W.written out.new) buffer.new.items result
+        (encode_lower bytes.now) }
+    ensures cause { HasCause (W.faults out.old) (W.faults out.new)
+        (IsErrOf result PortError.Failed) }
+{
+    for byte in bytes {
+        put(out, buffer, &digits_of(*byte))?;
+    }
+    Ok(())
+}
+
+/// The two digits of a byte.
+#[tactic(auto, unfolding(hex::specs::Hex::encode_with))]
+fn digits_of(byte: u8) -> [u8; 2]
+    ensures { result ≡ encode_lower (byte ∷ []) }
+{
+    [
+        DIGITS[usize::from(byte / 16)],
+        DIGITS[usize::from(byte % 16)],
+    ]
 }

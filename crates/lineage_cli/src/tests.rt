@@ -1,6 +1,5 @@
 //! What no clause says: that a run with ample memory answers, with these very bytes.
 
-use crate::rows::ACCEPTED_SCHEMA;
 use crate::run::run_alone;
 use avro_wire::Text;
 use lt_port::{MemSink, MemSource};
@@ -8,18 +7,14 @@ use std::alloc::{AllocError, Global};
 use std::process::Abort;
 use std::test::Fail;
 
-// The accepted schema with the two lineage columns behind it.
-const OTHER_SCHEMA: &[u8] =
-    br#"{"type":"record","name":"row","fields":[{"name":"n","type":"long","field-id":1},{"name":"s","type":["null","string"],"default":null,"field-id":2},{"name":"_row_id","type":["null","long"],"default":null,"field-id":2147483540},{"name":"_last_updated_sequence_number","type":["null","long"],"default":null,"field-id":2147483539}]}"#;
+// A required long and an optional text.
+pub(crate) const SCHEMA: &str =
+    r#"{"type":"record","name":"row","fields":[{"name":"n","type":"long","field-id":1},{"name":"s","type":["null","string"],"default":null,"field-id":2}]}"#;
 
 // 10 "a", 11 null, 12 "b".
 const THREE_ROWS: &[u8] = b"\x14\x02\x02a\x16\x00\x18\x02\x02b";
 
-// The same with the ids 5, null and 9, and the last changes 2, null and 0.
-const THREE_ROWS_WITH_IDS: &[u8] =
-    b"\x14\x02\x02a\x02\x0A\x02\x04\x16\x00\x00\x00\x18\x02\x02b\x02\x12\x00";
-
-const MARKER: &[u8] = &[0; 16];
+pub(crate) const MARKER: &[u8] = &[0; 16];
 
 // How a run ended.
 #[derive(Drop)]
@@ -69,17 +64,17 @@ pub(crate) fn run(
 }
 
 // The header of a file, up to and with the marker. The lengths stand as they are spelled.
-fn header(
+pub(crate) fn header(
     alloc: Global,
     schema_length: &[u8],
-    schema: &[u8],
+    schema: &str,
     codec_length: u8,
     codec: &[u8],
 ) -> Result<Vec<u8>, AllocError> {
     let mut file = Vec::new(alloc);
     file.extend_from_slice(b"Obj\x01\x04\x16avro.schema")?;
     file.extend_from_slice(schema_length)?;
-    file.extend_from_slice(schema)?;
+    file.extend_from_slice(schema.as_bytes())?;
     file.extend_from_slice(b"\x14avro.codec")?;
     file.push(codec_length)?;
     file.extend_from_slice(codec)?;
@@ -88,13 +83,13 @@ fn header(
     Ok(file)
 }
 
-// The header of a file of the accepted schema: 199 bytes.
-fn accepted_header(alloc: Global) -> Result<Vec<u8>, AllocError> {
-    header(alloc, b"\xA6\x02", ACCEPTED_SCHEMA, 8, b"null")
+// The header of a file of the schema: 199 bytes.
+fn plain_header(alloc: Global) -> Result<Vec<u8>, AllocError> {
+    header(alloc, b"\xA6\x02", SCHEMA, 8, b"null")
 }
 
 // The header and one block, whose count and size stand as they are spelled.
-fn file_with(
+pub(crate) fn file_with(
     mut file: Vec<u8>,
     count: u8,
     size: u8,
@@ -108,8 +103,8 @@ fn file_with(
 }
 
 // The file of three rows: 227 bytes.
-fn three_rows(alloc: Global) -> Result<Vec<u8>, AllocError> {
-    file_with(accepted_header(alloc)?, 6, 20, THREE_ROWS, MARKER)
+pub(crate) fn three_rows(alloc: Global) -> Result<Vec<u8>, AllocError> {
+    file_with(plain_header(alloc)?, 6, 20, THREE_ROWS, MARKER)
 }
 
 // The first bytes of the file of three rows.
@@ -119,9 +114,9 @@ fn cut(alloc: Global, length: usize) -> Result<Vec<u8>, AllocError> {
     Ok(file)
 }
 
-const WORDS: &[&str] = &["rows", "1000", "7"];
+pub(crate) const WORDS: &[&str] = &["rows", "1000", "7"];
 
-const THREE_LINES: &str = "1000 7 10 \"a\"\n1001 7 11 null\n1002 7 12 \"b\"\n";
+pub(crate) const THREE_LINES: &str = "1000 7 10 \"a\"\n1001 7 11 null\n1002 7 12 \"b\"\n";
 
 // Whether the run ends so, with ample memory.
 pub(crate) fn ends(
@@ -155,7 +150,7 @@ fn each_row_of_a_file_has_its_line(rt: HostRuntime) -> Result<(), Fail> {
     let whole = three_rows(alloc)?;
     prints(&rt, alloc, &whole, THREE_LINES)?;
     prints(&rt, alloc, &cut(alloc, 199)?, "")?;
-    let none = file_with(accepted_header(alloc)?, 0, 0, b"", MARKER)?;
+    let none = file_with(plain_header(alloc)?, 0, 0, b"", MARKER)?;
     prints(&rt, alloc, &none, "")?;
     let twice = file_with(whole, 6, 20, THREE_ROWS, MARKER)?;
     let six = "1000 7 10 \"a\"\n1001 7 11 null\n1002 7 12 \"b\"\n\
@@ -167,7 +162,7 @@ fn each_row_of_a_file_has_its_line(rt: HostRuntime) -> Result<(), Fail> {
 fn a_text_is_printed_as_a_literal(rt: HostRuntime) -> Result<(), Fail> {
     let alloc = rt.alloc();
     let objects = b"\x01\x02\x10\"\\\n\r\t\xC3\xA9/";
-    let file = file_with(accepted_header(alloc)?, 2, 22, objects, MARKER)?;
+    let file = file_with(plain_header(alloc)?, 2, 22, objects, MARKER)?;
     prints(&rt, alloc, &file, "1000 7 -1 \"\\\"\\\\\\n\\r\\té/\"\n")
 }
 
@@ -176,31 +171,14 @@ fn a_file_is_refused_by_its_first_fault(rt: HostRuntime) -> Result<(), Fail> {
     let alloc = rt.alloc();
     refuses(&rt, alloc, &cut(alloc, 226)?, "rowline: table Short 211\n")?;
     let marker = [0, 0, 0, 0, 0, 0, 0, 0, 0, 0, 0, 0, 0, 0, 0, 1];
-    let unmarked = file_with(accepted_header(alloc)?, 6, 20, THREE_ROWS, &marker)?;
+    let unmarked = file_with(plain_header(alloc)?, 6, 20, THREE_ROWS, &marker)?;
     refuses(&rt, alloc, &unmarked, "rowline: table Sync 1\n")?;
     refuses(&rt, alloc, b"", "rowline: table Short 0\n")?;
     refuses(&rt, alloc, b"Obj\x02\x00", "rowline: table Magic\n")?;
-    let deflate = header(alloc, b"\xA6\x02", ACCEPTED_SCHEMA, 14, b"deflate")?;
+    let deflate = header(alloc, b"\xA6\x02", SCHEMA, 14, b"deflate")?;
     let codec = "rowline: table Codec x6465666c617465\n";
     refuses(&rt, alloc, &deflate, codec)?;
-    let other = header(alloc, b"\x8E\x05", OTHER_SCHEMA, 8, b"null")?;
-    let with_ids = file_with(other, 6, 38, THREE_ROWS_WITH_IDS, MARKER)?;
-    refuses(&rt, alloc, &with_ids, "rowline: table OnlyS1\n")
-}
-
-#[test]
-fn a_block_is_its_count_of_rows(rt: HostRuntime) -> Result<(), Fail> {
-    let alloc = rt.alloc();
-    let unread = "rowline: table Unread\n";
-    let fewer = file_with(accepted_header(alloc)?, 4, 20, THREE_ROWS, MARKER)?;
-    refuses(&rt, alloc, &fewer, unread)?;
-    let more = file_with(accepted_header(alloc)?, 8, 20, THREE_ROWS, MARKER)?;
-    refuses(&rt, alloc, &more, unread)?;
-    let third_branch = file_with(accepted_header(alloc)?, 2, 4, b"\x14\x04", MARKER)?;
-    refuses(&rt, alloc, &third_branch, unread)?;
-    let no_text = file_with(accepted_header(alloc)?, 2, 8, b"\x14\x02\x02\xFF", MARKER)?;
-    refuses(&rt, alloc, &no_text, unread)?;
-    let negative = file_with(accepted_header(alloc)?, 1, 0, b"", MARKER)?;
+    let negative = file_with(plain_header(alloc)?, 1, 0, b"", MARKER)?;
     refuses(&rt, alloc, &negative, "rowline: table Form 1\n")
 }
 
@@ -228,7 +206,8 @@ fn words_without_a_form_are_refused(rt: HostRuntime) -> Result<(), Fail> {
         &["rows", "1000"],
         &["rows", "1000", "7", "8"],
         &["row", "1000", "7"],
-        &["rows", "-", "7"],
+        &["rows", "--", "7"],
+        &["rows", "-", "-"],
         &["rows", "-1", "7"],
         &["rows", "+1", "7"],
         &["rows", "01", "7"],

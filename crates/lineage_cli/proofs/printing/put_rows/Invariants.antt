@@ -1,17 +1,14 @@
-use Rattle.std.proofs.Common.{◌+◌, ◌-◌, ◌≤◌, List, [], ℕ, pos, length}
-use Rattle.std.specs.Io.KnownBytes.{Appends}
-use Rattle.words.specs.Reading.{value_or}
+use Rattle.std.proofs.Common.{◌≤◌, length}
 use Rattle.lineage_cli.specs.Output.{shown}
-use Rattle.lineage_cli.specs.Rows.{rows_at, counted_rows, rows_read}
 use Rattle.lineage_cli.specs.Text.{lines}
-use Rattle.lineage_cli.proofs.PrintLemmas.{IsPrinted}
+use Rattle.lineage_cli.proofs.PrintLemmas.{IsBegun}
 use Rattle.lineage_cli.proofs.printing.put_rows.Given as goal
 
-abbrev pub invariant-loop-index : goal.invariant-loop-index
-invariant-loop-index g l = record {
-  within : l.at ≤ length l.bytes;
-  before : List ℕ;
-  printed : IsPrinted (rows_at (l.count - l.index) l.bytes l.at) (l.first + l.index) l.last before (lines (rows_read l.first l.last (value_or [] (counted_rows (pos l.count) l.bytes))));
-  so_far : Appends (shown (g.W.Sink.written l.initial.out) l.initial.buffer.items) (shown (g.W.Sink.written l.out) l.buffer.items) before;
+abbrev pub invariant-loop-out : goal.invariant-loop-out
+invariant-loop-out g l = record {
+  begun : IsBegun (shown (g.W.Sink.written l.initial.out) l.initial.buffer.items) (shown (g.W.Sink.written l.out) l.buffer.items) (lines l.rows.left) (lines l.initial.rows.left);
   later : g.W.Sink.faults l.initial.out ≤ g.W.Sink.faults l.out;
 }
+
+abbrev pub decreases-loop-out : goal.decreases-loop-out
+decreases-loop-out g l = length l.rows.left

@@ -1,0 +1,26 @@
+-- The rows of a file by its own columns are those that it stores.
+use Rattle.std.proofs.Common.{◌≡◌, ℕ, pos, List, Option, None, Result, Ok, Err, refl, option_map}
+use Rattle.std.specs.Prelude.{IfOk}
+use Rattle.words.specs.Reading.{◌>>=◌}
+use Rattle.lt_base.specs.declared.column.Column.{Column}
+use Rattle.lt_base.specs.declared.row.Row.{Row}
+use Rattle.row_file.specs.declared.refusal.RowRefusal.{RowRefusal}
+use Rattle.row_file.specs.Columns.{file_columns_of}
+use Rattle.row_file.specs.File.{rows_of}
+use Rattle.row_file.proofs.StoredLaws.{rows_found}
+use Rattle.lineage_cli.specs.Rows.{file_rows, AreStored}
+
+-- by the columns
+by_columns : (first : Option ℕ) (sequence : ℕ) (bytes : List ℕ) (read : Result (List Column) RowRefusal) → file_columns_of bytes ≡ read
+    → IfOk (read >>= λ columns. rows_of bytes columns (option_map pos first) (pos sequence) None) (AreStored first sequence bytes)
+by_columns first sequence bytes (Err refusal) is = tt
+by_columns first sequence bytes (Ok columns) is = by_rows (rows_of bytes columns (option_map pos first) (pos sequence) None) refl
+  where
+    by_rows : (read : Result (List Row) RowRefusal) → rows_of bytes columns (option_map pos first) (pos sequence) None ≡ read → IfOk read (AreStored first sequence bytes)
+    by_rows (Err refusal) rows = tt
+    by_rows (Ok rows) rows_are = (columns, is, rows_found bytes columns (option_map pos first) (pos sequence) None rows rows_are)
+
+-- whatever the file
+pub rows_are_stored : (first : Option ℕ) (sequence : ℕ) (bytes : List ℕ) → IfOk (file_rows first sequence bytes) (AreStored first sequence bytes)
+unfolding file_rows
+rows_are_stored first sequence bytes = by_columns first sequence bytes (file_columns_of bytes) refl

@@ -1,0 +1,10 @@
+use Rattle.std.proofs.Common.{◌∷◌, []}
+use Rattle.std.proofs.lemmas.Result.{err_from_is_err_and}
+use Rattle.hex.specs.Hex.{encode_lower}
+use Rattle.lineage_cli.proofs.OutputLemmas.{begins_more}
+use Rattle.lineage_cli.proofs.printing.put_hex.Goals as goal
+
+pub returns-in_err-put-clause-text : goal.returns-in_err-put-clause-text
+returns-in_err-put-clause-text g c =
+    let p = err_from_is_err_and c.from_residual.result c.from_residual.ensures.1 in
+    rw p.1 (begins_more _ _ (120 ∷ []) (encode_lower c.args.bytes.now) c.in_err-put.ensures.text)
