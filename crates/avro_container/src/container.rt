@@ -15,7 +15,7 @@ pub type Meta = Items<(Text, Bytes)>;
 pub type Blocks = Items<Block>;
 
 /// One block: how many objects it has, and their bytes.
-#[derive(Debug, Drop)]
+#[derive(Drop)]
 pub struct Block {
     /// The number of objects, not below 0.
     pub count: i64,
@@ -24,7 +24,7 @@ pub struct Block {
 }
 
 /// A container. Avro spec, "Object Container Files".
-#[derive(Debug, Drop)]
+#[derive(Drop)]
 pub struct Container {
     pub meta: Meta,
     /// The marker that stands behind the header and behind each block.

@@ -26,6 +26,3 @@ pub use reading::read;
 pub use refusal::ContainerRefusal;
 pub use walk::{Walk, open_walk};
 pub use writing::write;
-
-#[cfg(test)]
-mod tests;

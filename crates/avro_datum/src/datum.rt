@@ -14,7 +14,7 @@ pub type Items = List<Datum>;
 pub type Pairs = List<(Text, Datum)>;
 
 /// A value of some schema. Avro spec, "Binary encoding".
-#[derive(Debug, Drop)]
+#[derive(Drop)]
 pub enum Datum {
     /// The null.
     Null,

@@ -10,7 +10,6 @@
 //! | `skipping` | where a value ends, without building it |
 //! | `kinds`, `fitting` | what a value is; whether it is one of a schema |
 //! | `writing` | the bytes of a value |
-//! | `reading_tests`, `writing_tests` | the standard's examples, and refusals with their places |
 #![tactic(auto)]
 
 mod block;
@@ -20,13 +19,9 @@ mod fitting;
 mod kinds;
 mod primitive;
 mod reading;
-#[cfg(test)]
-mod reading_tests;
 mod refusal;
 mod skipping;
 mod writing;
-#[cfg(test)]
-mod writing_tests;
 
 pub use cursor::Cursor;
 pub use datum::{Datum, Items, Pairs};

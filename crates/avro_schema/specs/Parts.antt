@@ -5,8 +5,10 @@ use Rattle.words.specs.Reading.{◌>>=◌}
 use Rattle.serde_json.specs.Data.{Data, Members}
 use Rattle.serde_json.specs.Read.{read}
 use Rattle.avro_schema.specs.declared.schema.Field.{Field}
+use Rattle.avro_schema.specs.declared.schema.Schema.{Schema}
 use Rattle.avro_schema.specs.declared.refusal.SchemaRefusal.{SchemaRefusal}
 use Rattle.avro_schema.specs.declared.refusal.SchemaRefusal.TheVariants.{NotJson}
+use Rattle.avro_schema.specs.Defined.{Seen, defined}
 use Rattle.avro_schema.specs.Member.{text_at}
 use Rattle.avro_schema.specs.Reading.{Reader, no_schema, schema_at, new_field_name}
 
@@ -18,6 +20,10 @@ schema_below (suc room) = schema_at room
 -- the name of a field behind others
 abbrev pub field_name_at : List Field → Members → Result (List ℕ) SchemaRefusal
 field_name_at before members = text_at (codes "name") members >>= new_field_name before
+
+-- a definition that is whole: its schema, and what was met then
+abbrev pub whole : Seen → List ℕ → Schema → Result (Schema × Seen) SchemaRefusal
+whole seen name schema = Ok (schema, defined seen name schema)
 
 -- the value of a JSON text, where it is one
 abbrev pub value_or_none : Option Data → Result Data SchemaRefusal

@@ -1,9 +1,12 @@
-//! Definitions of names: enums and fixed types, and the name of any definition.
+//! Definitions of names: enums and fixed types, and the begin and the end of any definition.
 
-ghost use Rattle.std.specs.Prelude.{◌≡◌, [], map, option_map};
+ghost use Rattle.std.specs.Prelude.{◌≡◌, [], map, option_map, IfOk};
 ghost use Rattle.serde_json.specs.View.{view, members_view};
 ghost use Rattle.std.specs.Fmt.{decimal};
+ghost use Rattle.avro_schema.specs.declared.schema.Schema.TheVariants.{Enum, Rec};
+ghost use Rattle.avro_schema.specs.Defined.{begun};
 ghost use Rattle.avro_schema.specs.Member.{or_form, text_of};
+ghost use Rattle.avro_schema.specs.Parts.{whole};
 ghost use Rattle.avro_schema.specs.Reading as spec;
 ghost use Rattle.avro_schema.specs.Refusal.{is_memory};
 ghost use Rattle.words.specs.Reading.{Gives};
@@ -11,7 +14,7 @@ ghost use Rattle.words.specs.Reading.{Gives};
 use crate::member::{Members, fixed_size_at, list_at, member, text_at};
 use crate::name::full_name;
 use crate::refusal::{SchemaRefusal, form, form_at, under};
-use crate::schema::{Name, Names, Schema};
+use crate::schema::{Fields, Name, Names, Schema};
 use crate::seen::Seen;
 use avro_wire::Text;
 use lists::List;
@@ -65,6 +68,64 @@ pub fn name_at(
     Ok(name)
 }
 
+/// Takes the full name of a record in the namespace `scope`: its definition begins.
+pub fn begin_record(
+    alloc: Global,
+    members: &Members,
+    scope: &str,
+    seen: &mut Seen,
+) -> Result<Name, SchemaRefusal>
+    ensures exact { Gives is_memory (λ name. name) result
+        (spec.name_at scope.now seen.old (members_view members.now.entries)) }
+    ensures ok { IfOk result (λ name. seen.new ≡ begun seen.old name) }
+{
+    let name = name_at(alloc, members, scope, seen)?;
+    seen.begin(alloc, name.as_str())?;
+    Ok(name)
+}
+
+/// Defines the name as the schema, and returns the schema.
+fn defined_as(
+    alloc: Global,
+    name: Name,
+    schema: Schema,
+    seen: &mut Seen,
+) -> Result<Schema, SchemaRefusal>
+    ensures exact { Gives is_memory (λ made. (made, seen.new)) result
+        (whole seen.old name schema) }
+{
+    seen.define(alloc, name.as_str(), &schema)?;
+    Ok(schema)
+}
+
+/// Makes the record of these fields, and defines its name as it.
+pub fn whole_record(
+    alloc: Global,
+    name: Name,
+    fields: Fields,
+    seen: &mut Seen,
+) -> Result<Schema, SchemaRefusal>
+    ensures exact { Gives is_memory (λ schema. (schema, seen.new)) result
+        (whole seen.old name (Rec name fields)) }
+{
+    let key = name.copy(alloc)?;
+    defined_as(alloc, key, Schema::Rec { name, fields }, seen)
+}
+
+/// Makes the enum of these symbols, and defines its name as it.
+fn whole_enum(
+    alloc: Global,
+    name: Name,
+    symbols: Names,
+    seen: &mut Seen,
+) -> Result<Schema, SchemaRefusal>
+    ensures exact { Gives is_memory (λ schema. (schema, seen.new)) result
+        (whole seen.old name (Enum name symbols)) }
+{
+    let key = name.copy(alloc)?;
+    defined_as(alloc, key, Schema::Enum { name, symbols }, seen)
+}
+
 /// The text at a place in a list, counted from 1.
 fn text_at_place(alloc: Global, place: usize, value: &Value) -> Result<Text, SchemaRefusal>
     ensures exact { Gives is_memory (λ text. text) result
@@ -104,10 +165,7 @@ pub fn enum_of(
     let name = name_at(alloc, members, scope, seen)?;
     let values = list_at(alloc, members, "symbols")?;
     let symbols = under(alloc, "symbols", texts_of(alloc, values))?;
-    let copy = name.copy(alloc)?;
-    let schema = Schema::Enum { name, symbols };
-    seen.define(alloc, copy.as_str(), &schema)?;
-    Ok(schema)
+    whole_enum(alloc, name, symbols, seen)
 }
 
 /// A fixed: its name, and its size.
@@ -122,8 +180,6 @@ pub fn fixed_of(
 {
     let name = name_at(alloc, members, scope, seen)?;
     let size = fixed_size_at(alloc, members, "size")?;
-    let copy = name.copy(alloc)?;
-    let schema = Schema::Fixed { name, size };
-    seen.define(alloc, copy.as_str(), &schema)?;
-    Ok(schema)
+    let key = name.copy(alloc)?;
+    defined_as(alloc, key, Schema::Fixed { name, size }, seen)
 }

@@ -1,6 +1,8 @@
 //! The fields of a record, with distinct names.
 
-ghost use Rattle.std.specs.Prelude.{◌≡◌, ◌++◌, ◌∷◌, [], false, OnOk, OnErr};
+ghost use Rattle.std.specs.Prelude.{◌≡◌, ℕ, ◌<◌, List as Seq, ◌++◌, ◌∷◌, [], true, false, cond, vec_len, vec_capacity, OnOk, OnErr};
+ghost use Rattle.std.specs.BTreeSet.{contains_text};
+ghost use Rattle.std.specs.Str.{bytes_eq};
 ghost use Rattle.avro_schema.specs.declared.schema.Field.{out-Field};
 ghost use Rattle.avro_schema.specs.Reading.{has_field};
 
@@ -60,15 +62,14 @@ impl DistinctFields {
         ensures ok { OnOk result (self.new ≡ self.old ++ field ∷ []) }
         ensures err { OnErr result (self.new ≡ self.old) }
     {
-        let key = String::from_str(alloc, field.name.as_str())?;
-        self.fields.push(field)?;
-        match self.names.insert(key) {
-            Ok(_) => Ok(()),
-            Err(_) => {
-                self.fields.pop();
-                Err(AllocError)
-            }
-        }
+        take_name(
+            alloc,
+            &mut self.fields,
+            &mut self.names,
+            field.name.as_str(),
+        )?;
+        self.fields.push_reserved(field);
+        Ok(())
     }
 
     /// The fields alone, in the order in which they came.
@@ -78,4 +79,24 @@ impl DistinctFields {
         let DistinctFields { fields, names: _ } = self;
         List::from_vec(fields)
     }
+}
+
+/// Puts the name among the names, once there is room for one field more.
+fn take_name(
+    alloc: Global,
+    fields: &mut Vec<Field>,
+    names: &mut BTreeSet<String>,
+    name: &str,
+) -> Result<(), AllocError>
+    ensures fields { fields.new.items ≡ fields.old.items }
+    ensures room { OnOk result (vec_len fields.new < vec_capacity fields.new) }
+    ensures ok { OnOk result ((other : Seq ℕ) → contains_text names.new other
+        ≡ cond (bytes_eq name.now other) true (contains_text names.old other)) }
+    ensures err { OnErr result ((other : Seq ℕ) → contains_text names.new other
+        ≡ contains_text names.old other) }
+{
+    fields.reserve(1)?;
+    let key = String::from_str(alloc, name)?;
+    names.insert(key)?;
+    Ok(())
 }

@@ -13,7 +13,6 @@
 //! | `fields` | the fields of a record, with distinct names |
 //! | `reading` | the schema of a text |
 //! | `printing` | the text of a schema |
-//! | `tests`, `printing_tests` | texts with their trees or refusals |
 #![tactic(auto)]
 
 mod definition;
@@ -23,14 +22,10 @@ mod member;
 mod name;
 mod primitive;
 mod printing;
-#[cfg(test)]
-mod printing_tests;
 mod reading;
 mod refusal;
 mod schema;
 mod seen;
-#[cfg(test)]
-mod tests;
 mod weight;
 
 pub use printing::print_schema;

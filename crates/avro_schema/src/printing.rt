@@ -1,7 +1,7 @@
 //! The text of a schema: its JSON tokens, without a space between them.
 
-ghost use Rattle.std.specs.Prelude.{◌≡◌, ◌++◌, ◌∷◌, true, codes, map, Ok, IfOk, OnOk};
-ghost use Rattle.json.specs.Token.{begin_object};
+ghost use Rattle.std.specs.Prelude.{◌≡◌, ◌++◌, ◌∷◌, [], true, codes, map, Ok, IfOk, OnOk};
+ghost use Rattle.json.specs.Token.{begin_object, key};
 ghost use Rattle.avro_schema.specs.declared.schema.Schema.TheVariants.{Fixed, Enum, Rec, Array, Map};
 ghost use Rattle.avro_schema.specs.Reading.{moment, schema_of};
 ghost use Rattle.avro_schema.specs.Printable.{IsPrintable};
@@ -63,8 +63,7 @@ fn put_record(out: &mut Writer, name: &Text, fields: &Fields) -> Result<(), Allo
     ensures tokens { Puts result out.old out.new (written (Rec name.now fields.now)).tokens }
     ensures ids { OnOk result (has_ids (Rec name.now fields.now) ≡ true) }
 {
-    begin_named(out, "record", name)?;
-    out.key("fields")?;
+    begin_fields(out, name)?;
     put_fields(out, fields)?;
     out.end_object()
 }
@@ -79,9 +78,7 @@ fn put_array(
     ensures tokens { Puts result out.old out.new (written (Array items.now id keyed)).tokens }
     ensures ids { OnOk result (has_ids (Array items.now id keyed) ≡ true) }
 {
-    begin_type(out, "array")?;
-    put_keyed(out, keyed)?;
-    out.key("items")?;
+    begin_items(out, keyed)?;
     put_schema(out, items)?;
     put_id(out, "element-id", id)?;
     out.end_object()
@@ -97,11 +94,9 @@ fn put_map(
     ensures tokens { Puts result out.old out.new (written (Map values.now key_id value_id)).tokens }
     ensures ids { OnOk result (has_ids (Map values.now key_id value_id) ≡ true) }
 {
-    begin_type(out, "map")?;
-    out.key("values")?;
+    begin_values(out)?;
     put_schema(out, values)?;
-    put_id(out, "key-id", key_id)?;
-    put_id(out, "value-id", value_id)?;
+    put_ids(out, key_id, value_id)?;
     out.end_object()
 }
 
@@ -122,12 +117,9 @@ fn put_field(out: &mut Writer, field: &Field) -> Result<(), AllocError>
     ensures tokens { Puts result out.old out.new (field_written field.now).tokens }
     ensures ids { OnOk result (field_has_ids field.now ≡ true) }
 {
-    out.begin_object()?;
-    put_text(out, "name", field.name.as_str())?;
-    out.key("type")?;
+    begin_field(out, field.name.as_str())?;
     put_schema(out, &field.schema)?;
-    put_default(out, begins_with_null(&field.schema))?;
-    put_id(out, "field-id", field.id)?;
+    end_field(out, begins_with_null(&field.schema), field.id)?;
     out.end_object()
 }
 
@@ -141,6 +133,56 @@ fn put_branches(out: &mut Writer, branches: &Branches) -> Result<(), AllocError>
         put_schema(out, branch)?;
     }
     out.end_array()
+}
+
+/// A record's object up to its fields.
+fn begin_fields(out: &mut Writer, name: &Text) -> Result<(), AllocError>
+    ensures { Puts result out.old out.new
+        (begin_object ∷ (text_member (codes "type") (codes "record")
+        ++ (text_member (codes "name") name.now ++ key (codes "fields") ∷ []))) }
+{
+    begin_named(out, "record", name)?;
+    out.key("fields")
+}
+
+/// An array's object up to its items.
+fn begin_items(out: &mut Writer, keyed: bool) -> Result<(), AllocError>
+    ensures { Puts result out.old out.new
+        (begin_object ∷ (text_member (codes "type") (codes "array")
+        ++ (keyed_member keyed ++ key (codes "items") ∷ []))) }
+{
+    begin_type(out, "array")?;
+    put_keyed(out, keyed)?;
+    out.key("items")
+}
+
+/// A map's object up to its values.
+fn begin_values(out: &mut Writer) -> Result<(), AllocError>
+    ensures { Puts result out.old out.new
+        (begin_object ∷ (text_member (codes "type") (codes "map") ++ key (codes "values") ∷ [])) }
+{
+    begin_type(out, "map")?;
+    out.key("values")
+}
+
+/// A field's object up to its type.
+fn begin_field(out: &mut Writer, name: &str) -> Result<(), AllocError>
+    ensures { Puts result out.old out.new
+        (begin_object ∷ (text_member (codes "name") name.now ++ key (codes "type") ∷ [])) }
+{
+    out.begin_object()?;
+    put_text(out, "name", name)?;
+    out.key("type")
+}
+
+/// What stands behind a field's type. `null`: it may be null first.
+fn end_field(out: &mut Writer, null: bool, id: Option<i32>) -> Result<(), AllocError>
+    ensures tokens { Puts result out.old out.new
+        (default_member null ++ id_member (codes "field-id") id) }
+    ensures ids { OnOk result (is_id id ≡ true) }
+{
+    put_default(out, null)?;
+    put_id(out, "field-id", id)
 }
 
 /// Whether the schema is a union whose first branch is the null type.
@@ -269,6 +311,17 @@ fn put_id(out: &mut Writer, name: &str, id: Option<i32>) -> Result<(), AllocErro
             out.i64(i64::from(id))
         }
     }
+}
+
+/// The ids of a map's texts and values.
+fn put_ids(out: &mut Writer, key_id: Option<i32>, value_id: Option<i32>) -> Result<(), AllocError>
+    ensures tokens { Puts result out.old out.new
+        (id_member (codes "key-id") key_id ++ id_member (codes "value-id") value_id) }
+    ensures keys { OnOk result (is_id key_id ≡ true) }
+    ensures values { OnOk result (is_id value_id ≡ true) }
+{
+    put_id(out, "key-id", key_id)?;
+    put_id(out, "value-id", value_id)
 }
 
 fn put_keyed(out: &mut Writer, keyed: bool) -> Result<(), AllocError>

@@ -1,7 +1,8 @@
 //! The schema that a JSON text is.
 
-ghost use Rattle.std.specs.Prelude.{◌≡◌, [], false, map, Ok, IfOk};
+ghost use Rattle.std.specs.Prelude.{◌≡◌, [], false, is_some, map, Ok, IfOk};
 ghost use Rattle.serde_json.specs.Data.{object};
+ghost use Rattle.serde_json.specs.Find.{as_array};
 ghost use Rattle.serde_json.specs.View.{view, members_view};
 ghost use Rattle.avro_schema.specs.declared.schema.Field.{out-Field};
 ghost use Rattle.avro_schema.specs.declared.schema.Schema.{Schema as ASchema};
@@ -14,7 +15,7 @@ ghost use Rattle.avro_schema.specs.Refusal.{is_memory};
 ghost use Rattle.avro_schema.specs.Refusal as refusals;
 ghost use Rattle.words.specs.Reading.{Gives};
 
-use crate::definition::{enum_of, fixed_of, name_at};
+use crate::definition::{begin_record, enum_of, fixed_of, whole_record};
 use crate::fields::DistinctFields;
 use crate::member::{Members, id_at, is_text, list_at, needed, text_at};
 use crate::name::{full_name, namespace_of};
@@ -175,6 +176,13 @@ fn fields_of(
     Ok(fields.into_list())
 }
 
+/// Whether the value is a union: a list.
+fn is_union(value: &Value) -> bool
+    ensures { result ≡ is_some (as_array (view value.now)) }
+{
+    value.is_array()
+}
+
 /// A branch of a union, which is no union.
 #[cycle(read)]
 fn branch_of(
@@ -187,7 +195,7 @@ fn branch_of(
     ensures exact { Gives is_memory (λ schema. (schema, seen.new)) result
         (spec.branch_at (schema_below room scope.now) seen.old (view value.now)) }
 {
-    if value.is_array() {
+    if is_union(value) {
         return Err(form(alloc, ""));
     }
     schema_of(alloc, value, scope, room, seen)
@@ -247,18 +255,14 @@ fn record_of(
         (spec.record_at (schema_below room) scope.now seen.old (members_view members.now.entries)) }
 {
     let values = list_at(alloc, members, "fields")?;
-    let name = name_at(alloc, members, scope, seen)?;
-    seen.begin(alloc, name.as_str())?;
+    let name = begin_record(alloc, members, scope, seen)?;
     let inside = namespace_of(name.as_str());
     let fields = under(
         alloc,
         "fields",
         fields_of(alloc, values, inside, room, seen),
     )?;
-    let copy = name.copy(alloc)?;
-    let schema = Schema::Rec { name, fields };
-    seen.define(alloc, copy.as_str(), &schema)?;
-    Ok(schema)
+    whole_record(alloc, name, fields, seen)
 }
 
 /// An array: the schema of its items.

@@ -1,6 +1,7 @@
 //! The tree of a schema.
 
 ghost use Rattle.std.specs.Prelude.{◌≡◌, IfOk};
+ghost use Rattle.avro_schema.specs.declared.schema.Schema.TheVariants.{Enum, Fixed, Rec};
 
 use avro_wire::Text;
 use lists::{Copied, List};
@@ -33,7 +34,7 @@ pub enum Logical {
 
 /// A field of a record.
 #[cycle(schema)]
-#[derive(Debug, Drop)]
+#[derive(Drop)]
 pub struct Field {
     /// Its name, which no other field of the record has.
     pub name: Name,
@@ -45,7 +46,7 @@ pub struct Field {
 
 /// A schema. A name that was used stands here as the schema that it was defined as.
 #[cycle(schema)]
-#[derive(Debug, Drop)]
+#[derive(Drop)]
 pub enum Schema {
     /// The one value null.
     Null,
@@ -154,45 +155,66 @@ fn copy_boxed(alloc: Global, schema: &Boxed<Schema>) -> Result<Boxed<Schema>, Al
 fn copy_schema(alloc: Global, schema: &Schema) -> Result<Schema, AllocError>
     ensures { IfOk result (λ copy. copy ≡ schema.now) }
 {
-    Ok(match schema {
-        Schema::Null => Schema::Null,
-        Schema::Boolean => Schema::Boolean,
-        Schema::Int(logical) => Schema::Int(*logical),
-        Schema::Long(logical) => Schema::Long(*logical),
-        Schema::Float => Schema::Float,
-        Schema::Double => Schema::Double,
-        Schema::Raw => Schema::Raw,
-        Schema::Str => Schema::Str,
-        Schema::Fixed { name, size } => Schema::Fixed {
-            name: name.copy(alloc)?,
-            size: *size,
-        },
-        Schema::Enum { name, symbols } => Schema::Enum {
-            name: name.copy(alloc)?,
-            symbols: symbols.copy(alloc)?,
-        },
-        Schema::Rec { name, fields } => Schema::Rec {
-            name: name.copy(alloc)?,
-            fields: copy_fields(alloc, fields)?,
-        },
+    match schema {
+        Schema::Null => Ok(Schema::Null),
+        Schema::Boolean => Ok(Schema::Boolean),
+        Schema::Int(logical) => Ok(Schema::Int(*logical)),
+        Schema::Long(logical) => Ok(Schema::Long(*logical)),
+        Schema::Float => Ok(Schema::Float),
+        Schema::Double => Ok(Schema::Double),
+        Schema::Raw => Ok(Schema::Raw),
+        Schema::Str => Ok(Schema::Str),
+        Schema::Fixed { name, size } => copy_fixed(alloc, name, *size),
+        Schema::Enum { name, symbols } => copy_enum(alloc, name, symbols),
+        Schema::Rec { name, fields } => copy_record(alloc, name, fields),
         Schema::Array {
             items,
             element_id,
             keyed,
-        } => Schema::Array {
+        } => Ok(Schema::Array {
             items: copy_boxed(alloc, items)?,
             element_id: *element_id,
             keyed: *keyed,
-        },
+        }),
         Schema::Map {
             values,
             key_id,
             value_id,
-        } => Schema::Map {
+        } => Ok(Schema::Map {
             values: copy_boxed(alloc, values)?,
             key_id: *key_id,
             value_id: *value_id,
-        },
-        Schema::Union(branches) => Schema::Union(copy_branches(alloc, branches)?),
+        }),
+        Schema::Union(branches) => Ok(Schema::Union(copy_branches(alloc, branches)?)),
+    }
+}
+
+#[cycle(copy)]
+fn copy_record(alloc: Global, name: &Name, fields: &Fields) -> Result<Schema, AllocError>
+    ensures { IfOk result (λ copy. copy ≡ Rec name.now fields.now) }
+{
+    let fields = copy_fields(alloc, fields)?;
+    Ok(Schema::Rec {
+        name: name.copy(alloc)?,
+        fields,
+    })
+}
+
+fn copy_fixed(alloc: Global, name: &Name, size: u32) -> Result<Schema, AllocError>
+    ensures { IfOk result (λ copy. copy ≡ Fixed name.now size) }
+{
+    Ok(Schema::Fixed {
+        name: name.copy(alloc)?,
+        size,
+    })
+}
+
+fn copy_enum(alloc: Global, name: &Name, symbols: &Names) -> Result<Schema, AllocError>
+    ensures { IfOk result (λ copy. copy ≡ Enum name.now symbols.now) }
+{
+    let symbols = symbols.copy(alloc)?;
+    Ok(Schema::Enum {
+        name: name.copy(alloc)?,
+        symbols,
     })
 }

@@ -1,7 +1,9 @@
 //! The names that a schema's text has defined so far.
 
 ghost use Rattle.std.specs.Prelude.{◌≤◌, IfOk, ◌≡◌, OnOk};
+ghost use Rattle.std.specs.BTreeMap.{insert_entry};
 ghost use Rattle.std.specs.Option.{option_copied};
+ghost use Rattle.std.specs.String.{string_cmp};
 ghost use Rattle.avro_schema.specs.Defined.{Definitions, known_as, is_taken, with_name};
 ghost use Rattle.avro_schema.specs.Defined.{begun, defined, nothing_seen};
 ghost use Rattle.avro_schema.specs.Reading.{counted, use_of};
@@ -103,7 +105,7 @@ impl Seen {
             ≡ record { names = with_name self.old.names name.now schema; count = self.old.count }) }
     {
         let key = String::from_str(alloc, name)?;
-        self.names.insert(key, schema)?;
+        put_name(&mut self.names, key, schema)?;
         Ok(())
     }
 
@@ -145,6 +147,19 @@ impl Seen {
         self.left = left;
         Ok(copy)
     }
+}
+
+/// Puts the name among the names, with what is known of it.
+fn put_name(
+    names: &mut BTreeMap<String, Option<Schema>>,
+    name: String,
+    schema: Option<Schema>,
+) -> Result<(), AllocError>
+    ensures ok { OnOk result (names.new.entries
+        ≡ insert_entry string_cmp names.old.entries name schema) }
+{
+    names.insert(name, schema)?;
+    Ok(())
 }
 
 /// How many schemas there are with those of one that a name stands for, where `room` levels may

@@ -7,14 +7,11 @@
 //! | `refusal` | why an item can't be taken |
 //! | `reading` | the takes: an item at a place, and the place after it |
 //! | `writing` | the puts: an item behind the bytes that are there |
-//! | `tests` | outside values, and each public function once |
 #![tactic(auto)]
 
 mod bytes;
 mod reading;
 mod refusal;
-#[cfg(test)]
-mod tests;
 mod text;
 mod utf8;
 mod writing;

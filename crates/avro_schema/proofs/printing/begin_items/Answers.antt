@@ -1,0 +1,7 @@
+use Rattle.avro_schema.proofs.Puts.{put_then, wrote_last}
+use Rattle.avro_schema.proofs.printing.begin_items.Goals as goal
+
+pub returns : goal.returns
+returns c =
+    put_then _ c.args.out.now c.begin_type.new.out c.key.new.self _ _ c.in_ok-begin_type.ensures
+    (put_then _ c.begin_type.new.out c.put_keyed.new.out c.key.new.self _ _ c.in_ok-put_keyed.ensures (wrote_last _ _ _ _ c.key.ensures))

@@ -1,0 +1,205 @@
+//! Files that are no containers, and why.
+
+use crate::containers::{CODEC, FILE, FRONT, MARKER, OBJECTS, SCHEMA, joined};
+use avro_container::{ContainerRefusal, read};
+use std::alloc::{AllocError, Global};
+use std::test::*;
+
+/// The parts of a file, and why it is refused: the cause, and the number that the refusal tells.
+type Refused = (&'static [&'static [u8]], &'static str, u64);
+
+/// The first wrong byte.
+static FILES: [Refused; 6] = [
+    (&[], "Short", 0),
+    (&[b"Obj\x02\x00"], "Magic", 0),
+    // Another last byte.
+    (
+        &[
+            FRONT,
+            SCHEMA,
+            CODEC,
+            b"\x08null\x00",
+            MARKER,
+            OBJECTS,
+            &[0, 0, 0, 0, 0, 0, 0, 0, 0, 0, 0, 0, 0, 0, 0, 1],
+        ],
+        "Sync",
+        1,
+    ),
+    // A last block that is cut short.
+    (
+        &[
+            FRONT,
+            SCHEMA,
+            CODEC,
+            b"\x08null\x00",
+            MARKER,
+            OBJECTS,
+            MARKER,
+            OBJECTS,
+            b"\x01",
+        ],
+        "Short",
+        239,
+    ),
+    // A count below 0.
+    (
+        &[
+            FRONT,
+            SCHEMA,
+            CODEC,
+            b"\x08null\x00",
+            MARKER,
+            b"\x05\x00",
+            MARKER,
+        ],
+        "Form",
+        1,
+    ),
+    // A block of the map that tells an untrue size.
+    (
+        &[b"Obj\x01\x01\x1e\x16avro.schema\x02x\x00", MARKER],
+        "Header",
+        5,
+    ),
+];
+
+/// The first wrong item of the header.
+static HEADERS: [Refused; 5] = [
+    (
+        &[
+            FRONT,
+            SCHEMA,
+            CODEC,
+            b"\x0edeflate\x00",
+            MARKER,
+            OBJECTS,
+            MARKER,
+        ],
+        "deflate",
+        0,
+    ),
+    // A key again.
+    (&[b"Obj\x01\x04\x02a\x00\x02a\x00\x00", MARKER], "Header", 8),
+    // A key that is no text.
+    (&[b"Obj\x01\x02\x02\xff\x00\x00", MARKER], "Header", 5),
+    // No schema.
+    (&[b"Obj\x01\x02\x02a\x00\x00", MARKER], "Header", 9),
+    // Too many pairs.
+    (&[b"Obj\x01\x82\x80\x80\x10", MARKER], "Header", 4),
+];
+
+/// The number that a refusal tells. 0: it tells none.
+fn number_of(refusal: &ContainerRefusal) -> u64 {
+    match refusal {
+        ContainerRefusal::Limit { found } => *found,
+        ContainerRefusal::Header { place } => *place,
+        ContainerRefusal::Short { place } => *place,
+        ContainerRefusal::Form { block } => *block,
+        ContainerRefusal::Sync { block } => *block,
+        _ => 0,
+    }
+}
+
+/// Whether this is the cause of the refusal, or the codec that it names.
+fn has_cause(refusal: &ContainerRefusal, cause: &str) -> bool {
+    match refusal {
+        ContainerRefusal::Limit { .. } => cause == "Limit",
+        ContainerRefusal::Magic => cause == "Magic",
+        ContainerRefusal::Header { .. } => cause == "Header",
+        ContainerRefusal::Codec { name } => name.as_slice() == cause.as_bytes(),
+        ContainerRefusal::Short { .. } => cause == "Short",
+        ContainerRefusal::Form { .. } => cause == "Form",
+        ContainerRefusal::Sync { .. } => cause == "Sync",
+        ContainerRefusal::Memory => cause == "Memory",
+    }
+}
+
+/// Whether the bytes are refused so.
+fn is_refused(alloc: Global, bytes: &[u8], cause: &str, number: u64) -> bool {
+    match read(alloc, bytes) {
+        Ok(_) => false,
+        Err(refusal) => has_cause(&refusal, cause) && number_of(&refusal) == number,
+    }
+}
+
+/// Whether the parts are refused so.
+fn are_refused(
+    alloc: Global,
+    parts: &[&[u8]],
+    cause: &str,
+    number: u64,
+) -> Result<bool, AllocError> {
+    let bytes = joined(alloc, parts)?;
+    Ok(is_refused(alloc, &bytes, cause, number))
+}
+
+/// The first row whose file isn't refused so.
+fn first_accepted(alloc: Global, rows: &[Refused]) -> Result<Option<usize>, AllocError> {
+    for number in 0..rows.len() {
+        let row = &rows[number];
+        if !are_refused(alloc, row.0, row.1, row.2)? {
+            return Ok(Some(number));
+        }
+    }
+    Ok(None)
+}
+
+#[test]
+fn a_file_is_refused_at_its_first_wrong_byte(rt: HostRuntime) -> Result<(), Fail> {
+    assert_eq!(rt; first_accepted(rt.alloc(), &FILES)?, None);
+    Ok(())
+}
+
+#[test]
+fn a_header_is_refused_at_its_first_wrong_item(rt: HostRuntime) -> Result<(), Fail> {
+    assert_eq!(rt; first_accepted(rt.alloc(), &HEADERS)?, None);
+    Ok(())
+}
+
+/// The bytes of the header of `FILE`.
+const HEADER_BYTES: usize = 199;
+
+/// Where the front of a file is short. `None`: it is a file, or is refused for another cause.
+fn short_at(alloc: Global, front: &[u8]) -> Option<u64> {
+    match read(alloc, front) {
+        Ok(_) => None,
+        Err(ContainerRefusal::Short { place }) => Some(place),
+        Err(_) => None,
+    }
+}
+
+/// Where the last front of the bytes is short. Each front but the header is short at a place within
+/// it, and no earlier than the ones before it. `None`: some front isn't.
+fn last_short(alloc: Global, whole: &[u8]) -> Option<u64> {
+    let mut least = 0;
+    for end in 0..whole.len() {
+        if end == HEADER_BYTES {
+            continue;
+        }
+        let place = short_at(alloc, &whole[..end])?;
+        if place < least || place > end as u64 {
+            return None;
+        }
+        least = place;
+    }
+    Some(least)
+}
+
+/// Whether the header alone is a file.
+fn is_header_a_file(alloc: Global, whole: &[u8]) -> bool {
+    HEADER_BYTES <= whole.len() && read(alloc, &whole[..HEADER_BYTES]).is_ok()
+}
+
+#[test]
+fn each_front_but_the_header_is_short(rt: HostRuntime) -> Result<(), Fail> {
+    let whole = joined(rt.alloc(), FILE)?;
+    assert_eq!(rt; whole.len(), 227);
+    assert_eq!(rt;
+        last_short(rt.alloc(), &whole),
+        Some(211),
+        "the last front has 226 bytes"
+    );
+    assert!(rt; is_header_a_file(rt.alloc(), &whole));
+    Ok(())
+}

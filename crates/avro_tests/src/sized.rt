@@ -1,0 +1,136 @@
+//! Bytes and texts of `avro_wire`: behind their length, and by themselves.
+
+use avro_wire::{Bytes, Text, WireRefusal, put_bytes, put_long, take_bytes, text_of};
+use std::alloc::{AllocError, Global};
+use std::test::*;
+
+/// Bytes, a place in them, and where the bytes behind the length there start and end.
+type Taken = (&'static [u8], usize, usize, usize);
+
+/// The standard's example of a string, "foo", and no bytes behind another item.
+static TAKEN: [Taken; 2] = [
+    (&[0x06, 0x66, 0x6f, 0x6f], 0, 1, 4),
+    (&[0x01, 0x00], 1, 2, 2),
+];
+
+/// The first row whose bytes are not taken so.
+fn first_mistaken(rows: &[Taken]) -> Option<usize> {
+    for number in 0..rows.len() {
+        let row = &rows[number];
+        if row.1 > row.0.len() || take_bytes(row.0, row.1) != Ok((row.2, row.3)) {
+            return Some(number);
+        }
+    }
+    None
+}
+
+/// Bytes, a place in them, and why none can be taken there.
+type Refused = (&'static [u8], usize, WireRefusal);
+
+static REFUSED: [Refused; 4] = [
+    (
+        &[0x00, 0x06, 0x66, 0x6f],
+        1,
+        WireRefusal::Short { place: 1 },
+    ),
+    (&[0x00, 0x86], 1, WireRefusal::Short { place: 1 }),
+    (&[0x00, 0x01, 0x66], 1, WireRefusal::TooLong { place: 1 }),
+    (
+        &[0xff, 0xff, 0xff, 0xff, 0xff, 0xff, 0xff, 0xff, 0xff, 0xff],
+        0,
+        WireRefusal::TooLong { place: 0 },
+    ),
+];
+
+/// The first row that is not refused so.
+fn first_taken(rows: &[Refused]) -> Option<usize> {
+    for number in 0..rows.len() {
+        let row = &rows[number];
+        if row.1 > row.0.len() || take_bytes(row.0, row.1) != Err(row.2) {
+            return Some(number);
+        }
+    }
+    None
+}
+
+#[test]
+fn bytes_are_taken_behind_their_length(rt: HostRuntime) {
+    assert_eq!(rt; first_mistaken(&TAKEN), None);
+    assert_eq!(rt; first_taken(&REFUSED), None);
+}
+
+#[test]
+fn items_are_put_behind_the_bytes_that_are_there(rt: HostRuntime) -> Result<(), Fail> {
+    let mut out = vec![in rt.alloc(); 0x09]?;
+    put_bytes(&mut out, b"foo")?;
+    put_long(&mut out, 64)?;
+    put_bytes(&mut out, b"")?;
+    let expected = [0x09, 0x06, 0x66, 0x6f, 0x6f, 0x80, 0x01, 0x00];
+    assert_eq!(rt; out.as_slice(), expected.as_slice());
+    Ok(())
+}
+
+/// Whether the refusal is shown so.
+fn is_shown(alloc: Global, refusal: WireRefusal, shown: &str) -> Result<bool, AllocError> {
+    Ok(format!(in alloc; "{refusal}")?.as_str() == shown)
+}
+
+#[test]
+fn a_refusal_names_its_place(rt: HostRuntime) -> Result<(), Fail> {
+    let short = WireRefusal::Short { place: 7 };
+    assert!(rt;
+        is_shown(
+            rt.alloc(),
+            short,
+            "the input ends inside the item at byte 7"
+        )?
+    );
+    let too_long = WireRefusal::TooLong { place: 7 };
+    assert!(rt; is_shown(rt.alloc(), too_long, "no item can stand at byte 7")?);
+    Ok(())
+}
+
+/// Bytes, and the text that they are.
+type Told = (&'static [u8], Option<&'static str>);
+
+static TOLD: [Told; 4] = [
+    (b"", Some("")),
+    (b"a\xC3\xA9", Some("a\u{e9}")),
+    (b"\xFF", None),
+    (b"\xC3", None),
+];
+
+/// The first row whose bytes are not its text.
+fn first_mistold(rows: &[Told]) -> Option<usize> {
+    for number in 0..rows.len() {
+        let row = &rows[number];
+        if text_of(row.0) != row.1 {
+            return Some(number);
+        }
+    }
+    None
+}
+
+/// Whether a text keeps the characters that it is made of, and a copy has them too.
+fn keeps_text(alloc: Global, whole: &str) -> Result<bool, AllocError> {
+    let text = Text::from_str(alloc, whole)?;
+    let copy = text.copy(alloc)?;
+    let string = Text::from_string(String::from_str(alloc, whole)?);
+    Ok(text.as_str() == whole && copy.as_str() == whole && string.as_str() == whole)
+}
+
+/// Whether bytes keep the values that they are made of, and a copy has them too.
+fn keeps_bytes(alloc: Global, whole: &[u8]) -> Result<bool, AllocError> {
+    let bytes = Bytes::from_slice(alloc, whole)?;
+    let copy = bytes.copy(alloc)?;
+    let again = Bytes::from_vec(bytes.into_vec());
+    Ok(copy.as_slice() == whole && again.as_slice() == whole)
+}
+
+#[test]
+fn texts_and_bytes_keep_what_they_are_made_of(rt: HostRuntime) -> Result<(), Fail> {
+    assert_eq!(rt; first_mistold(&TOLD), None);
+    assert!(rt; keeps_text(rt.alloc(), "snö")?);
+    assert!(rt; keeps_bytes(rt.alloc(), &[0, 255, 10])?);
+    Ok(())
+}
