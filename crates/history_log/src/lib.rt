@@ -12,26 +12,18 @@
 //! | `rules` | the rules of one entry |
 //! | `step` | the state after an entry |
 //! | `history` | the audit of a whole history |
-//! | `request_tests`, `entry_tests` | requests, runs and entries by hand |
-//! | `tests` | histories by hand, and what is said of them |
 #![tactic(auto)]
 
 mod entry;
-#[cfg(test)]
-mod entry_tests;
 mod history;
 mod ids;
 mod opening;
 mod paths;
 mod refusal;
 mod request;
-#[cfg(test)]
-mod request_tests;
 mod rules;
 mod runs;
 mod step;
-#[cfg(test)]
-mod tests;
 
 pub use entry::{print_entry, read_entry};
 pub use history::audit;

@@ -20,4 +20,3 @@ mod EndsMayBegin
 mod GivenIds
 mod AppendInTwo
 mod Unchanged
-mod Example

@@ -6,12 +6,9 @@
 //! |---|---|
 //! | `rule` | the rules that a step can break |
 //! | `laws` | what follows for every legal history |
-//! | `tests` | the names of the rules, and the laws at small tables |
 #![tactic(auto)]
 
 pub mod laws;
 mod rule;
-#[cfg(test)]
-mod tests;
 
 pub use rule::Rule;

@@ -4,13 +4,10 @@
 //! |---|---|
 //! | `copied` | values of which an equal one can be made |
 //! | `list` | the list |
-//! | `tests` | each public function once |
 #![tactic(auto)]
 
 mod copied;
 mod list;
-#[cfg(test)]
-mod tests;
 
 pub use copied::Copied;
 pub use list::List;

@@ -7,7 +7,6 @@
 //! | `cell`, `row`, `row_map` | a cell, rows, and rows by their ids |
 //! | `request`, `entry` | what is asked of a table, and one entry of its history |
 //! | `state` | what a table holds at one point of its history |
-//! | `tests` | each public function once |
 #![tactic(auto)]
 
 mod cell;
@@ -19,8 +18,6 @@ mod request;
 mod row;
 mod row_map;
 mod state;
-#[cfg(test)]
-mod tests;
 mod which;
 
 pub use cell::{Cell, Cells};

@@ -7,17 +7,12 @@
 //! | `number` | numbers in decimal |
 //! | `literal` | texts between quotes |
 //! | `hex_literal` | bytes in hexadecimal |
-//! | `tests` | texts by hand, and each public function once |
 #![tactic(auto)]
 
 mod hex_literal;
 mod literal;
-#[cfg(test)]
-mod literal_tests;
 mod number;
 mod refusal;
-#[cfg(test)]
-mod tests;
 mod word;
 
 pub use hex_literal::{put_hex, take_hex};

@@ -9,20 +9,15 @@
 //! | `stage` | one line behind those that were read |
 //! | `reading` | all lines of a report |
 //! | `printing` | reports as they are printed |
-//! | `tests`, `printing_tests` | reports by hand, read and printed |
 #![tactic(auto)]
 
 mod printing;
-#[cfg(test)]
-mod printing_tests;
 mod reading;
 mod refusal;
 mod row_line;
 mod schema_line;
 mod stage;
 mod start_line;
-#[cfg(test)]
-mod tests;
 
 pub use printing::{print_columns, print_report};
 pub use reading::read_report;

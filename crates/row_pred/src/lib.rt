@@ -5,14 +5,11 @@
 //! | `refusal` | why a text is no row of cells |
 //! | `cell` | one cell |
 //! | `cells` | the cells of a row |
-//! | `tests` | texts by hand, and each public function once |
 #![tactic(auto)]
 
 mod cell;
 mod cells;
 mod refusal;
-#[cfg(test)]
-mod tests;
 
 pub use cell::{put_cell, take_cell};
 pub use cells::{print_cells, put_cells, read_cells, take_cells};

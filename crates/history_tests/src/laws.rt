@@ -1,33 +1,13 @@
-//! The names of the rules, and each law at small tables.
+//! The laws of histories, each at a small table.
 
 ghost use Rattle.std.specs.Prelude.{◌≡◌, pos, [], ◌∷◌, Some, None, IfOk};
 ghost use Rattle.lt_base.specs.declared.request.Request.TheVariants.{Append, Compact, Upgrade};
 
-use super::laws::*;
-use super::*;
+use lineage_model::laws::*;
 use lists::List;
 use lt_base::{Entries, Entry, Request, RowMap, Run, State};
 use std::alloc::{AllocError, Global};
 use std::test::*;
-
-#[test]
-fn a_rule_prints_as_its_name(rt: HostRuntime) -> Result<(), Fail> {
-    let table = [
-        (Rule::Start, "Start"),
-        (Rule::Version, "Version"),
-        (Rule::Unnamed, "Unnamed"),
-        (Rule::Seq, "Seq"),
-        (Rule::Next, "Next"),
-        (Rule::Named, "Named"),
-        (Rule::Given, "Given"),
-        (Rule::Fresh, "Fresh"),
-        (Rule::Asked, "Asked"),
-    ];
-    for (rule, name) in table {
-        assert_eq!(rt; format!(in rt.alloc(); "{rule}")?.as_str(), name);
-    }
-    Ok(())
-}
 
 /// A table without rows.
 fn empty(alloc: Global, version: u8, next: Option<i64>) -> State
@@ -133,28 +113,96 @@ fn compact(alloc: Global) -> Entry
     }
 }
 
-#[test]
-fn the_laws_hold_of_a_table_that_is_upgraded_and_gets_a_row(rt: HostRuntime) -> Result<(), Fail> {
-    let alloc = rt.alloc();
+/// A history of this entry.
+fn one_entry(alloc: Global, entry: Entry) -> Result<Entries, AllocError>
+    ensures { IfOk result (λ entries. entries ≡ entry ∷ []) }
+{
+    let mut entries = List::new(alloc);
+    entries.push(entry)?;
+    Ok(entries)
+}
+
+/// A history of these entries.
+fn two_entries(alloc: Global, first: Entry, second: Entry) -> Result<Entries, AllocError>
+    ensures { IfOk result (λ entries. entries ≡ first ∷ second ∷ []) }
+{
+    let mut entries = List::new(alloc);
+    entries.push(first)?;
+    entries.push(second)?;
+    Ok(entries)
+}
+
+/// What is said of the upgrade of a table without rows.
+fn upgraded(alloc: Global) {
     let start = empty(alloc, 2, None);
+    let upgrade = upgrade(alloc);
     let upgraded = empty(alloc, 3, Some(0));
+    an_upgrade_changes_no_row(&start, &upgrade, &upgraded);
+}
+
+/// What is said of the compaction of a table with one row.
+fn compacted(alloc: Global) -> Result<(), AllocError> {
     let end = one_row(alloc, 1)?;
     let compacted = one_row(alloc, 2)?;
-    let upgrade = upgrade(alloc);
     let compact = compact(alloc);
-    an_upgrade_changes_no_row(&start, &upgrade, &upgraded);
     a_compaction_changes_no_row(&end, &compact, &compacted);
-    let mut entries: Entries = List::new(alloc);
-    entries.push(upgrade)?;
+    Ok(())
+}
+
+/// What is said of the row that is appended behind the upgrade.
+fn appended(alloc: Global) -> Result<(), AllocError> {
+    let upgrade = upgrade(alloc);
+    let entries = one_entry(alloc, upgrade)?;
     let last = append(alloc)?;
+    let end = one_row(alloc, 1)?;
+    let start = empty(alloc, 2, None);
+    let upgraded = empty(alloc, 3, Some(0));
     an_append_keeps_each_row(&start, &entries, &upgraded, &last, &end);
+    Ok(())
+}
+
+/// What is said of the id of that row.
+fn given(alloc: Global) -> Result<(), AllocError> {
+    let last = append(alloc)?;
+    let end = one_row(alloc, 1)?;
+    let upgraded = empty(alloc, 3, Some(0));
     rows_get_their_ids_in_order(&upgraded, &last, &end);
-    let mut later: Entries = List::new(alloc);
-    later.push(append(alloc)?)?;
+    Ok(())
+}
+
+/// What is said of the next id from the upgrade to the append.
+fn gone_on(alloc: Global) -> Result<(), AllocError> {
+    let upgrade = upgrade(alloc);
+    let entries = one_entry(alloc, upgrade)?;
+    let append = append(alloc)?;
+    let later = one_entry(alloc, append)?;
+    let end = one_row(alloc, 1)?;
+    let start = empty(alloc, 2, None);
+    let upgraded = empty(alloc, 3, Some(0));
     next_never_falls(&start, &entries, &upgraded, &later, &end);
-    entries.push(last)?;
+    Ok(())
+}
+
+/// What is said of the history of both entries.
+fn ended(alloc: Global) -> Result<(), AllocError> {
+    let last = append(alloc)?;
+    let upgrade = upgrade(alloc);
+    let entries = two_entries(alloc, upgrade, last)?;
+    let end = one_row(alloc, 1)?;
+    let start = empty(alloc, 2, None);
     no_id_is_given_twice(&start, &entries, &end);
     an_end_may_begin_a_history(&start, &entries, &end);
+    Ok(())
+}
+
+#[test]
+fn the_laws_hold_of_a_table_that_is_upgraded_and_gets_a_row(rt: HostRuntime) -> Result<(), Fail> {
+    upgraded(rt.alloc());
+    compacted(rt.alloc())?;
+    appended(rt.alloc())?;
+    given(rt.alloc())?;
+    gone_on(rt.alloc())?;
+    ended(rt.alloc())?;
     Ok(())
 }
 
@@ -251,16 +299,27 @@ fn two_rows(alloc: Global) -> Result<State, AllocError>
     })
 }
 
-#[test]
-fn a_row_of_version_2_gets_its_id_by_the_next_append(rt: HostRuntime) -> Result<(), Fail> {
-    let alloc = rt.alloc();
-    let start = empty(alloc, 2, None);
+/// What is said of the row that is appended in version 2.
+fn appended_in_version_2(alloc: Global) -> Result<(), AllocError> {
     let first = append_unnamed(alloc)?;
     let unnamed = one_unnamed(alloc, 2, None)?;
+    let start = empty(alloc, 2, None);
     an_append_of_version_2_names_no_row(&start, &first, &unnamed);
-    let upgraded = one_unnamed(alloc, 3, Some(0))?;
+    Ok(())
+}
+
+/// What is said of the row that is appended behind the upgrade of that table.
+fn named(alloc: Global) -> Result<(), AllocError> {
     let second = append_second(alloc)?;
+    let upgraded = one_unnamed(alloc, 3, Some(0))?;
     let end = two_rows(alloc)?;
     rows_get_their_ids_in_order(&upgraded, &second, &end);
+    Ok(())
+}
+
+#[test]
+fn a_row_of_version_2_gets_its_id_by_the_next_append(rt: HostRuntime) -> Result<(), Fail> {
+    appended_in_version_2(rt.alloc())?;
+    named(rt.alloc())?;
     Ok(())
 }
