@@ -11,7 +11,7 @@ use row_pred::PredRefusal;
 use std::alloc::{AllocError, AllocFailed};
 
 /// Why a text is no request or entry, or a history is not legal. A place counts bytes from 0.
-#[derive(Debug, Drop)]
+#[derive(Drop)]
 pub enum HistoryRefusal {
     /// No request or entry goes on with what begins here.
     Syntax { place: u64 },

@@ -5,7 +5,7 @@ use lists::{Copied, List};
 use std::alloc::{AllocError, Global};
 
 /// What stands in one column of a row.
-#[derive(Debug, Drop)]
+#[derive(Drop)]
 pub enum Cell {
     Null,
     Flag(bool),

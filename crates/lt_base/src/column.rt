@@ -25,7 +25,7 @@ pub enum Kind {
 }
 
 /// A column of a table. Iceberg spec, "Nested Types".
-#[derive(Debug, Drop)]
+#[derive(Drop)]
 pub struct Column {
     /// The field id, by which files name the column.
     pub id: i32,

@@ -50,7 +50,7 @@ impl Copied for ColumnsRefusal {
 /// The columns of a table, in its order: 1 to 200 columns with ids from 1 to 2,147,483,447 and
 /// names of 1 to 255 bytes, each id and each name once. Contracts see the list of them.
 /// docs/FORMATS.md, "Limits".
-#[derive(Debug, Drop)]
+#[derive(Drop)]
 pub struct Columns {
     list: List<Column>,
 }

@@ -5,7 +5,7 @@ use lists::{Copied, List};
 use std::alloc::{AllocError, Global};
 
 /// Ids that follow one another.
-#[derive(Clone, Copy, Debug, PartialEq, Eq)]
+#[derive(Clone, Copy, PartialEq, Eq)]
 pub struct Run {
     /// The first id.
     pub first: i64,
@@ -17,7 +17,7 @@ pub struct Run {
 pub type Runs = List<Run>;
 
 /// One commit, as the history tells it.
-#[derive(Debug, Drop)]
+#[derive(Drop)]
 pub struct Entry {
     /// Whose commit it is.
     pub who: u64,

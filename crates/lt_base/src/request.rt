@@ -9,7 +9,7 @@ use std::alloc::{AllocError, Global};
 pub type Paths = List<Text>;
 
 /// What is asked of a table.
-#[derive(Debug, Drop)]
+#[derive(Drop)]
 pub enum Request {
     /// Rows are added: at least one.
     Append(CellRows),

@@ -5,7 +5,7 @@ use lists::{Copied, List};
 use std::alloc::{AllocError, Global};
 
 /// A row of a table, as a reader sees it. Iceberg spec, "Row Lineage".
-#[derive(Debug, Drop)]
+#[derive(Drop)]
 pub struct Row {
     /// The row's id. `None`: the table has not given it one.
     pub id: Option<i64>,
@@ -15,7 +15,7 @@ pub struct Row {
 }
 
 /// A row as a data file holds it. Iceberg spec, "Row Lineage".
-#[derive(Debug, Drop)]
+#[derive(Drop)]
 pub struct StoredRow {
     /// The stored id. `None`: the file's first id and the row's place give it.
     pub id: Option<i64>,

@@ -14,7 +14,7 @@ use std::marker::Model;
 
 /// Rows by their ids: of each the sequence number of the last change, and the cells. Contracts see
 /// the list of the ids and what stands at each, by rising id.
-#[derive(Debug, Drop)]
+#[derive(Drop)]
 pub struct RowMap {
     rows: BTreeMap<i64, (i64, Cells)>,
 }

@@ -6,7 +6,7 @@ use lists::Copied;
 use std::alloc::{AllocError, Global};
 
 /// What a table holds at one point of its history. It names no file.
-#[derive(Debug, Drop)]
+#[derive(Drop)]
 pub struct State {
     /// The version of the format: 2 or 3.
     pub version: u8,

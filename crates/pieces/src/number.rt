@@ -34,7 +34,7 @@ pub enum Digits {
 }
 
 /// A number past 64 bits. Places count bytes from 0.
-#[derive(Clone, Copy, Debug, PartialEq, Eq)]
+#[derive(Clone, Copy, PartialEq, Eq)]
 pub struct Passed {
     /// What its digits make before the one that passes 64 bits, with its sign.
     pub front: i64,

@@ -6,7 +6,7 @@ ghost use Rattle.pieces.specs.declared.refusal.PieceRefusal.TheVariants.{Memory}
 use std::alloc::{AllocError, AllocFailed};
 
 /// Why a piece does not stand in a text.
-#[derive(Clone, Copy, Debug, PartialEq, Eq)]
+#[derive(Clone, Copy, PartialEq, Eq)]
 pub enum PieceRefusal {
     /// No such piece goes on with the byte at `place`, counted from 0, or it ends there.
     Syntax { place: u64 },

@@ -21,7 +21,7 @@ pub enum ReportRefusal {
 }
 
 /// Why a line is none of a report.
-#[derive(Clone, Copy, Debug, PartialEq, Eq)]
+#[derive(Clone, Copy)]
 pub enum LineRefusal {
     /// It has another form, or doesn't fit what stands before it.
     Wrong,

@@ -20,7 +20,7 @@ use pieces::stands;
 use std::alloc::Global;
 
 /// A history as its report tells it.
-#[derive(Debug, Drop)]
+#[derive(Drop)]
 pub struct Report {
     /// The columns of the table.
     pub columns: Columns,
@@ -31,7 +31,7 @@ pub struct Report {
 }
 
 /// What was read so far.
-#[derive(Debug, Drop)]
+#[derive(Drop)]
 pub enum Stage {
     /// No line.
     Nothing,

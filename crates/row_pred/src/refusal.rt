@@ -9,7 +9,7 @@ use pieces::PieceRefusal;
 use std::alloc::{AllocError, AllocFailed};
 
 /// Why a text does not stand for what is read of it. A place counts bytes from 0.
-#[derive(Debug, Drop)]
+#[derive(Drop)]
 pub enum PredRefusal {
     /// No such text goes on with the byte at `place`, or it ends there.
     Syntax { place: u64 },
