@@ -1,4 +1,5 @@
-use Rattle.std.proofs.Common.{sym, arith}
+use Rattle.std.proofs.Common.{sym, arith, rules}
+use Rattle.lt_base.specs.Columns.{columns_of}
 use Rattle.lt_base.proofs.ColumnsLemmas.{are_columns, name_refused}
 use Rattle.lt_base.proofs.columns.check.Goals as goal
 
@@ -20,3 +21,7 @@ returns-in-Some-place_of_wrong_name-clause-exact c =
     let name = rw c.deref-2.ensures.value at c.in-Some-place_of_wrong_name.ensures.value in
     let within = rw c.deref-2.ensures.value at c.in-Some-place_of_wrong_name.ensures.within in
     sym (name_refused c.args.list.items c.in-Some-place_of_wrong_name.place c.swap_remove-column.result (omega arith) (omega arith) ids name within c.swap_remove-column.ensures.value)
+
+pub returns-clause-exact : goal.returns-clause-exact
+unfolding columns_of
+returns-clause-exact c = search rules
