@@ -1,4 +1,4 @@
-use Rattle.std.proofs.Common.{◌≡◌, ◌+◌, ◌++◌, ◌∷◌, [], ℕ, List, false, drop, get_or, string_bytes, arith, ap, ◌∙◌}
+use Rattle.std.proofs.Common.{◌≡◌, ◌+◌, ◌++◌, ◌∷◌, [], ℕ, List, false, drop, get_or, string_bytes, arith, ap, ◌∙◌, rules}
 use Rattle.std.proofs.lemmas.Result.{err_from_is_err_and}
 use Rattle.std.proofs.lemmas.Str.{IsCharBoundary-after_ascii}
 use Rattle.pieces.specs.Literal.{rest_at}
@@ -33,3 +33,6 @@ runs-preserved c =
       boundary = rw two at (IsCharBoundary-after_ascii text (end + 1) c.utf8.text within.0 ascii.0);
       read = read_escape text at end other (string_bytes c.runs.content) (string_bytes c.push_str.new.self) (string_bytes c.push.new.self) c.range.result.now run escape c.range.ensures.value c.in_ok-push_str.ensures.bytes (c.in_ok-push.ensures.bytes ∙ ap (λ (l : List ℕ). string_bytes c.push_str.new.self ++ l) (c.in_ok-push.ensures.ascii ascii.1)) ∙ c.runs.invariant.read;
     }
+
+pub returns-in_default-clause-exact : goal.returns-in_default-clause-exact
+returns-in_default-clause-exact c = search rules
