@@ -203,9 +203,10 @@ fn is_case(alloc: Global, columns: &Columns, case: &Case) -> bool {
     is_said(&audited, &case.2)
 }
 
-/// Histories of a new table.
-static GROWN: [Case; 12] = [
-    // No entry.
+/// Histories: of a new table, of a table of version 2, of states without entries, and with large
+/// numbers.
+static HISTORIES: [Case; 47] = [
+    // A new table: no entry.
     (NEW, &[], Legal(3, 0, 0, Some(0), 0)),
     // Two appends.
     (
@@ -276,11 +277,7 @@ static GROWN: [Case; 12] = [
         &[FIRST, (Append(1), Some(2), &[(2, 1)], &[(3, 1)], Some(4))],
         Broken(2, Rule::Named),
     ),
-];
-
-/// Histories of a table of version 2.
-static RENEWED: [Case; 14] = [
-    // An append, which gives no ids.
+    // A table of version 2: an append, which gives no ids.
     (
         OLD,
         &[(Append(2), Some(3), &[], &[], None)],
@@ -356,11 +353,7 @@ static RENEWED: [Case; 14] = [
         &[UPGRADE, (Append(1), Some(3), &[(0, 1)], &[(1, 1)], None)],
         Broken(2, Rule::Next),
     ),
-];
-
-/// States without a history.
-static BEGUN: [Case; 15] = [
-    // Ids and last changes at both ends.
+    // States without entries: ids and last changes at both ends.
     (
         (3, Some(9), 4, &[], &[(0, 0), (8, 4)]),
         &[],
@@ -410,11 +403,7 @@ static BEGUN: [Case; 15] = [
         &[],
         Broken(0, Rule::Start),
     ),
-];
-
-/// Histories with large numbers.
-static LARGE: [Case; 6] = [
-    // A run of more ids than there is time for.
+    // Large numbers: a run of more ids than there is time for.
     (
         NEW,
         &[(Append(1), Some(1), &[], &[(0, MOST), (0, MOST)], Some(MOST))],
@@ -454,10 +443,7 @@ static LARGE: [Case; 6] = [
 
 #[test]
 fn a_history_is_legal_up_to_its_first_fault(rt: HostRuntime) -> Result<(), Fail> {
-    assert_eq!(rt; first_wrong(rt.alloc(), &GROWN)?, None);
-    assert_eq!(rt; first_wrong(rt.alloc(), &RENEWED)?, None);
-    assert_eq!(rt; first_wrong(rt.alloc(), &BEGUN)?, None);
-    assert_eq!(rt; first_wrong(rt.alloc(), &LARGE)?, None);
+    assert_eq!(rt; first_wrong(rt.alloc(), &HISTORIES)?, None);
     Ok(())
 }
 

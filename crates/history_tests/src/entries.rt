@@ -5,7 +5,7 @@ use crate::answers::{Form, Line, first_wrong};
 use std::test::*;
 
 /// Texts of entries about two columns.
-static TEXTS: [Line; 23] = [
+static TEXTS: [Line; 52] = [
     (
         r#"entry 1 1 2 - 0+2 append 10 "a" ; 11 null"#,
         Printed(r#"entry 1 1 2 - 0+2 append 10 "a" ; 11 null"#),
@@ -55,10 +55,7 @@ static TEXTS: [Line; 23] = [
     ("entry 1 1 2 - 0+2 append null null", NotNull(10)),
     ("entry 1 1 2 - 0+2 append 10 11", Misfit(28)),
     ("entry 1 - 0 - - upgrade ", Syntax(23)),
-];
-
-/// Texts of entries whose named ids are read up to where they end.
-static RUNS: [Line; 8] = [
+    // The named ids are read up to where they end.
     (
         "entry 1 - 0 - - upgrade",
         Printed("entry 1 - 0 - - upgrade"),
@@ -93,10 +90,7 @@ static RUNS: [Line; 8] = [
         "entry 1 - 0 9223372036854775807+1,-9223372036854775808+1 - upgrade",
         Printed("entry 1 - 0 9223372036854775807+1,-9223372036854775808+1 - upgrade"),
     ),
-];
-
-/// Texts of entries whose named ids, from place 12 on, are refused at their first wrong byte.
-static NO_RUNS: [Line; 21] = [
+    // The named ids, which begin at place 12, are refused at their first wrong byte.
     ("entry 1 - 0 ", Syntax(12)),
     ("entry 1 - 0 x", Syntax(12)),
     ("entry 1 - 0 0", Syntax(13)),
@@ -145,7 +139,5 @@ static NO_RUNS: [Line; 21] = [
 #[test]
 fn an_entry_is_read_or_refused_at_its_first_wrong_byte(rt: HostRuntime) -> Result<(), Fail> {
     assert_eq!(rt; first_wrong(rt.alloc(), Form::Entry, &TEXTS)?, None);
-    assert_eq!(rt; first_wrong(rt.alloc(), Form::Entry, &RUNS)?, None);
-    assert_eq!(rt; first_wrong(rt.alloc(), Form::Entry, &NO_RUNS)?, None);
     Ok(())
 }
