@@ -24,6 +24,3 @@ returns c =
     let first = simp to_z-of_z at (c.in-Some.ensures c.args.high (ids_of c.args.given.now) top) in
     let second = simp to_z-of_z at (c.in-Some-behind_all.ensures c.args.high [] top) in
     simp to_z-of_z (both_rise c.args.low c.in-Some.middle c.in-Some-behind_all.last c.args.high (ids_of c.args.named.now) (ids_of c.args.given.now) first second)
-
-pub returns-in_default : goal.returns-in_default
-returns-in_default c = search rules
