@@ -9,7 +9,7 @@ use lt_base::Cell;
 use std::alloc::{AllocError, Global};
 
 /// What stands in one column of a row: a `Cell` whose text or bytes are lent from the file.
-#[derive(Clone, Copy, Debug)]
+#[derive(Clone, Copy)]
 pub enum CellRef<'a> {
     Null,
     Flag(bool),

@@ -13,7 +13,7 @@ use avro_datum::{
 use avro_schema::Schema;
 
 /// How the cells of a type are read.
-#[derive(Clone, Copy, Debug, PartialEq, Eq)]
+#[derive(Clone, Copy)]
 pub struct Form {
     pub primitive: Primitive,
     /// Which of two branches is null, counted from 0. None: the type is no union.

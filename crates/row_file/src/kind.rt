@@ -9,7 +9,7 @@ use avro_schema::{Logical, Schema};
 use lt_base::Kind;
 
 /// A primitive type of cells. Avro spec, "Primitive Types".
-#[derive(Clone, Copy, Debug, PartialEq, Eq)]
+#[derive(Clone, Copy, PartialEq, Eq)]
 pub enum Primitive {
     Boolean,
     Int,
@@ -19,7 +19,7 @@ pub enum Primitive {
 }
 
 /// How a field's type is read.
-#[derive(Debug, Drop)]
+#[derive(Drop)]
 pub struct CellType<'a> {
     /// Whether null may stand there.
     pub has_null: bool,

@@ -13,7 +13,6 @@
 //! | `block`, `checked` | the checks of a file's blocks; the rows of a file that was checked |
 //! | `reading` | reading all rows of a file |
 //! | `file_schema`, `row_value`, `writing` | the schema of a file that is written; a row as a value; writing rows |
-//! | `tests`, `reading_tests`, `writing_tests` | rows of the standard's rules; files with their columns, rows or refusals |
 #![tactic(auto)]
 
 mod block;
@@ -28,16 +27,10 @@ mod lineage;
 mod opening;
 mod plan;
 mod reading;
-#[cfg(test)]
-mod reading_tests;
 mod refusal;
 mod row;
 mod row_value;
-#[cfg(test)]
-mod tests;
 mod writing;
-#[cfg(test)]
-mod writing_tests;
 
 pub use cell::CellRef;
 pub use checked::{CheckedRows, check_file};

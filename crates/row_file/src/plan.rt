@@ -12,7 +12,7 @@ use lt_base::{Column, Columns};
 use std::alloc::{AllocError, Global};
 
 /// Where the cell of a field goes.
-#[derive(Clone, Copy, Debug, PartialEq, Eq)]
+#[derive(Clone, Copy)]
 pub enum Target {
     /// The cell of the column at this place, counted from 0.
     Cell(usize),
@@ -23,7 +23,7 @@ pub enum Target {
 }
 
 /// What is done with the value of a field.
-#[derive(Clone, Copy, Debug, PartialEq, Eq)]
+#[derive(Clone, Copy)]
 pub enum Step {
     /// It is passed over: the table doesn't have it.
     Skip,

@@ -11,7 +11,7 @@ use std::alloc::{AllocError, AllocFailed};
 
 /// Why the rows of a data file can't be read or written: the first cause in the order of the
 /// checks. docs/FORMATS.md, "Data files".
-#[derive(Debug, Drop)]
+#[derive(Drop)]
 pub enum RowRefusal {
     /// The bytes are no container.
     Container(ContainerRefusal),

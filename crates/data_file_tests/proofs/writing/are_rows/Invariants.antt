@@ -1,6 +1,6 @@
 use Rattle.std.proofs.Common.{◌≡◌, true, All, take}
 use Rattle.lt_base.specs.Fits.{fits_row}
-use Rattle.row_file.proofs.writing_tests.are_rows.Given as goal
+use Rattle.data_file_tests.proofs.writing.are_rows.Given as goal
 
 abbrev pub invariant-loop-row : goal.invariant-loop-row
 invariant-loop-row l = All (λ row. fits_row l.columns row.cells ≡ true) (take l.row-index l.rows)
