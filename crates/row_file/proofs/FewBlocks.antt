@@ -1,5 +1,5 @@
 -- A file that was opened has no more blocks than a file may have bytes.
-use Rattle.std.proofs.Common.{◌≡◌, ℕ, zero, suc, ◌+◌, ◌-◌, ◌≤◌, List, [], ◌∷◌, length, Ok, ap, subst, inl, inr, arith}
+use Rattle.std.proofs.Common.{◌≡◌, ℕ, zero, suc, ◌+◌, ◌≤◌, List, [], ◌∷◌, length, Ok, ap, subst, inl, inr, arith}
 use Rattle.std.specs.Prelude.{nat_le, nat_lt, slice_range}
 use Rattle.std.proofs.lemmas.Bool.{ltb-false}
 use Rattle.words.specs.Reading.{map_refusal}

@@ -1,6 +1,6 @@
 -- A cell that is read by its form is that of the value which is read under the type.
-use Rattle.std.proofs.Common.{◌≡◌, ℕ, zero, suc, ◌<◌, List, [], ◌∷◌, length, Bool, true, false, Option, Ok, Err, Result, refl, sym, ap, ◌∙◌, subst, arith, inl, inr}
-use Rattle.std.specs.Prelude.{◌==◌, ℤ, pos, negsuc, nat_lt, Some, None, slice_get, if◌then◌else◌}
+use Rattle.std.proofs.Common.{◌≡◌, ℕ, zero, suc, List, [], ◌∷◌, Bool, true, false, Option, Ok, Err, Result, refl, sym, ap, ◌∙◌, subst, arith, inl, inr}
+use Rattle.std.specs.Prelude.{◌==◌, ℤ, pos, negsuc, Some, None, slice_get, if◌then◌else◌}
 use Rattle.std.proofs.lemmas.Option.{none-some}
 use Rattle.std.proofs.lemmas.Bool.{cases_Bool, false≢true, le-ltb}
 use Rattle.words.specs.Reading.{◌>>=◌, map_value}
@@ -19,10 +19,9 @@ use Rattle.avro_datum.specs.Reading.{flag_at, number_from, num_at, choice_at, wi
 use Rattle.avro_datum.proofs.Layers.{reads-Null, reads-Boolean, reads-Int, reads-Long, reads-Raw, reads-Str, reads-Union}
 use Rattle.row_file.specs.declared.form.Form.{Form}
 use Rattle.row_file.specs.declared.kind.Primitive.{Primitive}
-use Rattle.row_file.specs.declared.kind.Primitive.TheVariants as primitives
-use Rattle.row_file.specs.Kind.{Level, Nullable, nullable_level, nullable, of_branches, beside_null, is_null, primitive_of}
+use Rattle.row_file.specs.Kind.{Level, nullable_level, of_branches, beside_null, is_null, primitive_of}
 use Rattle.row_file.specs.Row.{cell_of, cell_of_level, plain_cell}
-use Rattle.row_file.specs.Cell.{null_branch, null_branch_in, form_with, form_as, form_of, as_cell, cell_read, primitive_at, beside_null_at, form_at}
+use Rattle.row_file.specs.Cell.{form_with, form_as, form_of, as_cell, cell_read, primitive_at, beside_null_at, form_at}
 
 -- ---- cells of values
 

@@ -1,10 +1,8 @@
 -- The field that is found for an id: it stands at its place, has the id, and no other id finds it.
-use Rattle.std.proofs.Common.{◌≡◌, ℕ, suc, ◌+◌, List, [], ◌∷◌, true, false, Some, None, refl, sym, ap, ◌∙◌, subst, arith, inl, inr}
+use Rattle.std.proofs.Common.{◌≡◌, ℕ, suc, ◌+◌, List, [], ◌∷◌, true, Some, None, refl, sym, ap, ◌∙◌, subst, arith, inl, inr}
 use Rattle.std.specs.Prelude.{ℤ, Option, slice_get}
-use Rattle.std.specs.Ordering.{int_eq}
 use Rattle.std.proofs.lemmas.Bool.{cases_Bool, false≢true}
 use Rattle.std.proofs.lemmas.Bool.Decides.{Decides-int_eq}
-use Rattle.std.proofs.lemmas.Option.{none-some}
 use Rattle.avro_schema.specs.declared.schema.Field.{Field, out-Field}
 use Rattle.avro_schema.specs.declared.schema.Schema.{Schema}
 use Rattle.row_file.specs.Field.{Found, is_this, find_from, find}

@@ -17,7 +17,7 @@ pub mod RestLemmas
 pub mod BegunLemmas
 pub mod ShownLemmas
 pub mod FewBlocks
-pub mod CheckedLemmas
+pub mod CheckingLemmas
 pub mod ReadingLemmas
 pub mod ItemLemmas
 pub mod ValueLemmas

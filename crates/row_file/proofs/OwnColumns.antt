@@ -6,7 +6,8 @@ use Rattle.std.proofs.lemmas.Bool.{cases_Bool, false≢true, or_parts, false_fro
 use Rattle.std.proofs.lemmas.Bool.Decides.{Decides-int_eq}
 use Rattle.std.proofs.lemmas.List.Elements.{All-nil, All-cons}
 use Rattle.std.proofs.lemmas.List.Folds.{list_any-append}
-use Rattle.words.specs.Reading.{◌>>=◌, Gives, map_value}
+use Rattle.words.specs.Reading.{◌>>=◌, Gives, never, map_value}
+use Rattle.words.specs.Laws.{refused_for_certain}
 use Rattle.lt_base.specs.declared.column.Column.{Column}
 use Rattle.lt_base.specs.declared.column.Kind.{Kind}
 use Rattle.lt_base.specs.Columns.{first_fault, has_id, has_wrong_id, has_wrong_name, most_columns}
@@ -15,6 +16,7 @@ use Rattle.avro_schema.specs.declared.schema.Schema.TheOpen.{Boolean, Int, Long,
 use Rattle.avro_schema.specs.declared.schema.Logical.{Logical}
 use Rattle.avro_schema.specs.declared.schema.Logical.TheVariants.{Date, TimeMicros, StampMicros, StampMicrosUtc}
 use Rattle.avro_schema.specs.declared.schema.Field.{Field, out-Field}
+use Rattle.avro_container.specs.declared.container.Container.{Container}
 use Rattle.avro_container.proofs.Steps.{bind_then, test_failed, ok_is}
 use Rattle.row_file.specs.declared.refusal.RowRefusal.{RowRefusal}
 use Rattle.row_file.specs.Kind.{Level, Nullable, nullable, holds, is_allowed, int_kind, long_kind, kind_of}
@@ -209,3 +211,12 @@ pub own_columns : (bytes : List ℕ) (result : Result (List Column) RowRefusal) 
     → IfOk result (λ columns. IfOk (opened bytes) (λ file. All (λ column. IsHeld column (find column.id (fields_of file.1))) columns))
 own_columns bytes (Ok columns) gives = file_read bytes columns gives
 own_columns bytes (Err refusal) gives = tt
+
+-- a file that was opened, whose fields have columns that were checked, has those
+pub opened_columns : (bytes : List ℕ) (container : Container) (schema : Schema) (list : List Column) (result : Result (List Column) RowRefusal) → opened bytes ≡ Ok (container, schema) → columns_from [] (fields_of schema) ≡ Ok list → Gives never (λ columns. columns) result (checked list)
+    → Gives is_memory (λ columns. columns) result (file_columns_of bytes)
+unfolding file_columns_of columns_in
+opened_columns bytes container schema list (Ok columns) opens listed gives = rw (opens, listed) gives
+opened_columns bytes container schema list (Err refusal) opens listed gives =
+    let refused : file_columns_of bytes ≡ Err refusal = rw (opens, listed) gives in
+    refused_for_certain (is_memory refusal) refused

@@ -8,7 +8,6 @@ use Rattle.std.proofs.Math.Seq.{set-append_seam}
 use Rattle.std.proofs.lemmas.List.Elements.{All-head, All-tail}
 use Rattle.std.proofs.lemmas.Bool.Decides.{Decides-int_eq}
 use Rattle.lt_base.specs.declared.cell.Cell.{Cell}
-use Rattle.lt_base.specs.declared.cell.Cell.TheVariants as cells
 use Rattle.lt_base.specs.declared.column.Column.{Column}
 use Rattle.lt_base.specs.declared.column.Kind.{Kind}
 use Rattle.lt_base.specs.declared.column.Kind.TheVariants as kinds

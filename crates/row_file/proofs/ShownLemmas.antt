@@ -1,7 +1,6 @@
 -- What is seen of the rows of a file that was checked.
-use Rattle.std.proofs.Common.{◌≡◌, ℕ, ◌+◌, ◌<◌, List, [], ◌∷◌, length, refl, sym, ap, subst, ◌∙◌, arith}
+use Rattle.std.proofs.Common.{◌≡◌, ℕ, ◌+◌, List, [], ◌∷◌, length, refl, sym, ap, subst, ◌∙◌, arith}
 use Rattle.std.specs.Prelude.{ℤ, pos, ◌+ℤ◌, ◌<ℤ◌, ◌^◌, Option, IfSome, map}
-use Rattle.lt_base.specs.declared.row.Row.{Row}
 use Rattle.lt_base.specs.declared.row.StoredRow.{StoredRow}
 use Rattle.row_file.specs.declared.row.Layout.{Layout}
 use Rattle.row_file.specs.declared.row.RowRef.{RowRef}
@@ -23,7 +22,7 @@ unfolding rows_from
 row_shown first sequence position left row others id last is id_is last_is = rw (is, id_is, last_is) refl
 
 -- as many are left as before
-ids_same : (first : Option ℤ) (before after : ℕ) → before ≡ after → IfSome first (λ id. (id +ℤ pos before) <ℤ pos (2 ^ 63)) → IfSome first (λ id. (id +ℤ pos after) <ℤ pos (2 ^ 63))
+pub ids_same : (first : Option ℤ) (before after : ℕ) → before ≡ after → IfSome first (λ id. (id +ℤ pos before) <ℤ pos (2 ^ 63)) → IfSome first (λ id. (id +ℤ pos after) <ℤ pos (2 ^ 63))
 ids_same first before after same fits = subst (λ (n : ℕ). IfSome first (λ id. (id +ℤ pos n) <ℤ pos (2 ^ 63))) same fits
 
 -- where no row is left, none was before, and what is seen stays

@@ -20,12 +20,13 @@ use Rattle.avro_schema.specs.Printing.{schema_text}
 use Rattle.avro_schema.specs.Reading.{schema_of}
 use Rattle.avro_schema.proofs.MeansText.{schema_found}
 use Rattle.avro_container.specs.declared.container.Block.{Block}
+use Rattle.avro_container.specs.declared.container.Container.{Container}
 use Rattle.avro_container.specs.Header.{schema_key, codec_key}
 use Rattle.avro_container.specs.Format.{IsContainer}
 use Rattle.avro_container.specs.Writing.{IsWritable}
 use Rattle.row_file.specs.Stored.{StoresRows}
 use Rattle.row_file.specs.Writing.{file_schema, row_datum, kept, block_size, block_of, blocks_of, file_container}
-use Rattle.row_file.specs.Written.{HasLongs, IsEncodedRow}
+use Rattle.row_file.specs.Written.{HasLongs, IsEncodedRow, IsPrinted}
 use Rattle.row_file.proofs.WrittenFits.{datum_fits}
 use Rattle.row_file.proofs.WrittenBlocks.{writable}
 use Rattle.row_file.proofs.WrittenPrinted.{printable}
@@ -108,13 +109,20 @@ blocks_end columns lineage rows blocks rest none before =
 
 -- ---- the file
 
--- what the calls that write a file answer: then what is written stores the rows
-pub file_right : (result : Result (List ℕ) AllocError) (columns : List Column) (sync : List ℕ) (lineage : Bool) (rows : List StoredRow) (schema : Schema) (text : List ℕ) (meta : List (List ℕ × List ℕ)) (blocks : List Block) → IsColumns columns
-    → All (λ (row : StoredRow). fits_row columns row.cells ≡ true) rows → schema ≡ file_schema columns lineage → text ≡ schema_text schema → (IsPrintable schema → schema_of text ≡ Ok schema) → meta ≡ (schema_key, text) ∷ (codec_key, codes "null") ∷ []
-    → blocks ≡ all_blocks columns lineage rows → All (IsEncodedRow columns lineage) rows → IfOk result (λ bytes. IsWritable (record { meta = meta; sync = sync; blocks = blocks }) → IsContainer bytes (record { meta = meta; sync = sync; blocks = blocks }))
+-- the container of a file's schema, its header and its blocks
+pub container_made : (columns : List Column) (sync : List ℕ) (lineage : Bool) (rows : List StoredRow) (schema : Schema) (meta : List (List ℕ × List ℕ)) (blocks : List Block) → schema ≡ file_schema columns lineage → meta ≡ (schema_key, schema_text schema) ∷ (codec_key, codes "null") ∷ []
+    → blocks ≡ all_blocks columns lineage rows → file_container columns sync lineage rows ≡ record { meta = meta; sync = sync; blocks = blocks }
+container_made columns sync lineage rows schema meta blocks schema_is meta_is blocks_are = rw (meta_is, blocks_are, schema_is) refl
+
+-- the schema of a file can be printed, so its text is read as it
+pub printed_back : (columns : List Column) (lineage : Bool) (schema : Schema) → IsColumns columns → schema ≡ file_schema columns lineage → (IsPrintable schema → schema_of (schema_text schema) ≡ Ok schema) → IsPrinted columns lineage
+printed_back columns lineage schema are schema_is printed = (rw schema_is at printed) (printable columns lineage are)
+
+-- what is written of the container stores the rows
+pub file_right : (result : Result (List ℕ) AllocError) (columns : List Column) (sync : List ℕ) (lineage : Bool) (rows : List StoredRow) (container : Container) → IsColumns columns → All (λ (row : StoredRow). fits_row columns row.cells ≡ true) rows
+    → container ≡ file_container columns sync lineage rows → IsPrinted columns lineage → All (IsEncodedRow columns lineage) rows → IfOk result (λ bytes. IsWritable container → IsContainer bytes container)
     → IfOk result (λ bytes. StoresRows bytes columns (map (kept lineage) rows))
-file_right (Ok bytes) columns sync lineage rows schema text meta blocks are fit schema_is text_is printed meta_is blocks_are encoded framed =
-    let again : schema_of (schema_text (file_schema columns lineage)) ≡ Ok (file_schema columns lineage) = (rw (text_is, schema_is) at printed) (printable columns lineage are) in
-    let here : IsContainer bytes (file_container columns sync lineage rows) = (rw (meta_is, blocks_are, text_is, schema_is) at framed) (writable columns sync lineage rows) in
-    file_stores bytes columns sync lineage rows here (schema_found (schema_text (file_schema columns lineage)) (file_schema columns lineage) again) are fit encoded
-file_right (Err refused) columns sync lineage rows schema text meta blocks are fit schema_is text_is printed meta_is blocks_are encoded framed = tt
+file_right (Ok bytes) columns sync lineage rows container are fit container_is printed encoded framed =
+    let here : IsContainer bytes (file_container columns sync lineage rows) = (rw container_is at framed) (writable columns sync lineage rows) in
+    file_stores bytes columns sync lineage rows here (schema_found (schema_text (file_schema columns lineage)) (file_schema columns lineage) printed) are fit encoded
+file_right (Err refused) columns sync lineage rows container are fit container_is printed encoded framed = tt

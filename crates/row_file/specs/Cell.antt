@@ -1,6 +1,6 @@
 -- A cell that is lent from the bytes of a file, and how the cells of a field are read.
 -- Avro 1.11, "Primitive Types", "Unions"; Iceberg spec, "Appendix A: Format-specific Requirements", "Avro".
-use Rattle.std.specs.Prelude.{ℕ, ◌==◌, Bool, List, [], ◌∷◌, Option, Some, None, Result, Ok, Err, slice_get, if◌then◌else◌}
+use Rattle.std.specs.Prelude.{ℕ, ◌==◌, List, [], ◌∷◌, Option, Some, None, Result, Ok, slice_get, if◌then◌else◌}
 use Rattle.words.specs.Reading.{◌>>=◌, map_value}
 use Rattle.lt_base.specs.declared.cell.Cell.{Cell}
 use Rattle.lt_base.specs.declared.cell.Cell.TheVariants as cells

@@ -6,6 +6,7 @@ pub mod Cell
 pub mod Plan
 pub mod Planning
 pub mod File
+pub mod Checking
 pub mod Stored
 pub mod Checked
 pub mod Fault

@@ -1,5 +1,5 @@
 -- Which cell of a row each field of a file fills. Iceberg spec, "Column Projection".
-use Rattle.std.specs.Prelude.{◌≡◌, ℕ, ◌<◌, List, [], ◌∷◌, ◌++◌, length, map, set, get_or, slice_get, Option, Some, None, Result}
+use Rattle.std.specs.Prelude.{◌≡◌, ℕ, ◌<◌, List, [], ◌∷◌, ◌++◌, length, set, get_or, slice_get, Some, Result}
 use Rattle.words.specs.Reading.{map_value}
 use Rattle.lt_base.specs.declared.cell.Cell.{Cell}
 use Rattle.lt_base.specs.declared.column.Column.{Column}

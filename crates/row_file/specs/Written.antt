@@ -1,8 +1,10 @@
--- What is known of each row that is written.
-use Rattle.std.specs.Prelude.{◌≡◌, ℕ, ℤ, Bool, true, List, Option, IfSome}
+-- What is known of the schema and of each row that is written.
+use Rattle.std.specs.Prelude.{◌≡◌, ℕ, ℤ, Bool, true, List, Option, IfSome, Ok}
 use Rattle.lt_base.specs.Fits.{is_long}
 use Rattle.lt_base.specs.declared.column.Column.{Column}
 use Rattle.lt_base.specs.declared.row.StoredRow.{StoredRow}
+use Rattle.avro_schema.specs.Printing.{schema_text}
+use Rattle.avro_schema.specs.Reading.{schema_of}
 use Rattle.avro_datum.specs.Canonical.{canonical}
 use Rattle.avro_datum.specs.Spelling.{IsEncoding}
 use Rattle.row_file.specs.Writing.{file_schema, row_datum}
@@ -22,3 +24,7 @@ row_text columns lineage row = canonical (file_schema columns lineage) (row_datu
 -- they are an encoding of the row's value
 abbrev pub IsEncodedRow : List Column → Bool → StoredRow → Type 0
 IsEncodedRow columns lineage row = IsEncoding (file_schema columns lineage) (row_datum columns lineage row) (row_text columns lineage row)
+
+-- the text of a file's schema is read as the schema
+abbrev pub IsPrinted : List Column → Bool → Type 0
+IsPrinted columns lineage = schema_of (schema_text (file_schema columns lineage)) ≡ Ok (file_schema columns lineage)

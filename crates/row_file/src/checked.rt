@@ -1,25 +1,28 @@
 //! The rows of a file that was checked whole, shown one after the other.
 
-ghost use Rattle.std.specs.Prelude.{◌≡◌, ◌<◌, ◌≤◌, ◌∷◌, List, [], length, map, Ok, IfOk};
+ghost use Rattle.std.specs.Prelude.{◌≡◌, ◌<◌, ◌^◌, ◌∷◌, List, [], length, map, Ok, IfOk};
 ghost use Rattle.std.specs.Bool.{OnTrue, OnFalse};
 ghost use Rattle.words.specs.Reading.{Gives};
 ghost use Rattle.row_file.specs.Refusal.{is_memory};
 ghost use Rattle.row_file.specs.Cell.{lent_cell};
 ghost use Rattle.lt_base.specs.declared.row.StoredRow.{StoredRow as AStoredRow};
-ghost use Rattle.row_file.specs.File.{most_rows, check_told, check_ids, rows_of, rows_from};
+ghost use Rattle.row_file.specs.Field.{fields_of};
+ghost use Rattle.row_file.specs.Plan.{IsPlan};
+ghost use Rattle.row_file.specs.File.{check_counts, rows_of, rows_from};
+ghost use Rattle.row_file.specs.Checking.{rows_of_blocks, rows_opened};
 ghost use Rattle.row_file.specs.Stored.{StoresRows, ReadsRows, AreRead};
 ghost use Rattle.row_file.specs.declared.row.Layout.{Layout as ALayout};
 ghost use Rattle.row_file.specs.Checked.{IsRest, rest_of_file};
 
-use crate::block::{check_blocks, check_counts, rows_told};
+use crate::block::rows_told;
 use crate::cell::CellRef;
-use crate::field::{check_fields, fields_of};
+use crate::checking::{check_before_rows, checked_row, layout_of};
 use crate::lineage::{row_id, row_last};
 use crate::opening::open_file;
-use crate::plan::plan_of;
 use crate::refusal::RowRefusal;
-use crate::row::{Layout, RowRef, nulls, take_row};
+use crate::row::{Layout, RowRef, take_row};
 use avro_container::Walk;
+use avro_schema::Schema;
 use lt_base::Columns;
 use std::alloc::Global;
 use std::marker::Model;
@@ -170,21 +173,46 @@ fn check_all<'a>(
     ensures exact { Gives is_memory (λ rows. rows.left) result
         (rows_of bytes.now columns.now first sequence told) }
 {
-    let (mut walk, schema) = open_file(alloc, bytes)?;
-    check_fields(fields_of(&schema), columns.as_slice())?;
-    check_counts(&mut walk)?;
-    walk.restart();
-    let steps = plan_of(alloc, fields_of(&schema), columns)?;
-    let layout = Layout {
-        columns: columns.as_slice(),
-        schema,
-        steps,
-    };
-    let mut row = nulls(alloc, columns.len())?;
-    let rows = check_blocks(&layout, &mut walk, &mut row)?;
-    check_told(told, rows)?;
-    check_ids(first, rows)?;
-    walk.restart();
+    let (walk, schema) = open_file(alloc, bytes)?;
+    check_opened(alloc, walk, schema, columns, first, sequence, told)
+}
+
+/// The rows of a file that was opened.
+fn check_opened<'a>(
+    alloc: Global,
+    mut walk: Walk<'a>,
+    schema: Schema,
+    columns: &'a Columns,
+    first: Option<i64>,
+    sequence: i64,
+    told: Option<i64>,
+) -> Result<CheckedRows<'a>, RowRefusal>
+    requires fits { length walk.whole.blocks < 2 ^ 63 }
+    ensures exact { Gives is_memory (λ rows. rows.left) result
+        (rows_opened columns.now first sequence told (walk.entry.whole, schema)) }
+{
+    check_before_rows(&mut walk, &schema, columns)?;
+    let layout = layout_of(alloc, schema, columns)?;
+    show_checked(alloc, walk, layout, first, sequence, told)
+}
+
+/// The rows of a file of which all was checked that comes before them.
+fn show_checked<'a>(
+    alloc: Global,
+    mut walk: Walk<'a>,
+    layout: Layout<'a>,
+    first: Option<i64>,
+    sequence: i64,
+    told: Option<i64>,
+) -> Result<CheckedRows<'a>, RowRefusal>
+    requires plan { IsPlan layout.columns.now (fields_of layout.schema) layout.steps.items }
+    requires counts { check_counts 0 walk.whole.blocks ≡ Ok tt }
+    requires fits { length walk.whole.blocks < 2 ^ 63 }
+    ensures exact { Gives is_memory (λ rows. rows.left) result
+        (rows_of_blocks layout.entry.columns.now layout.entry.schema walk.entry.whole.blocks
+        first sequence told) }
+{
+    let row = checked_row(alloc, &layout, &mut walk, first, told)?;
     Ok(CheckedRows {
         layout,
         rest: Rest {
@@ -200,29 +228,4 @@ fn check_all<'a>(
         id: None,
         last: sequence,
     })
-}
-
-/// Whether the file has as many rows as the caller says, where that is said.
-fn check_told(told: Option<i64>, rows: u64) -> Result<(), RowRefusal>
-    requires few { rows ≤ most_rows }
-    ensures { result ≡ check_told told rows }
-{
-    let found = rows as i64;
-    match told {
-        Some(told) if told != found => Err(RowRefusal::RecordCount { told, found }),
-        _ => Ok(()),
-    }
-}
-
-/// Whether the first row id, where there is one, and the number of rows are together at most the
-/// largest long.
-fn check_ids(first: Option<i64>, rows: u64) -> Result<(), RowRefusal>
-    requires few { rows ≤ most_rows }
-    ensures { result ≡ check_ids first rows }
-{
-    let rows = rows as i64;
-    match first {
-        Some(first) if first > i64::MAX - rows => Err(RowRefusal::IdsSpent { first, rows }),
-        _ => Ok(()),
-    }
 }

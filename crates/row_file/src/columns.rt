@@ -16,6 +16,7 @@ use crate::field::fields_of;
 use crate::kind::{kind_of, nullable};
 use crate::opening::open_file;
 use crate::refusal::RowRefusal;
+use avro_container::Walk;
 use avro_schema::{Field, Schema};
 use lists::Copied;
 use lt_base::{Column, Columns, ColumnsRefusal};
@@ -44,9 +45,16 @@ pub fn file_columns(alloc: Global, bytes: &[u8]) -> Result<Columns, RowRefusal>
     ensures readable { IfOk result (λ columns. IfOk (opened bytes.now) (λ file.
         All (λ column. IsHeld column (find column.id (fields_of file.1))) columns)) }
 {
-    let (_, schema) = open_file(alloc, bytes)?;
-    let list = take_columns(alloc, fields_of(&schema))?;
+    let list = opened_columns(alloc, open_file(alloc, bytes)?)?;
     checked(list)
+}
+
+/// The columns of the fields of a file that was opened.
+fn opened_columns(alloc: Global, file: (Walk<'_>, Schema)) -> Result<Vec<Column>, RowRefusal>
+    ensures exact { Gives is_memory (λ columns. columns.items) result
+        (columns_from [] (fields_of file.entry.1)) }
+{
+    take_columns(alloc, fields_of(&file.1))
 }
 
 /// The columns of the fields.

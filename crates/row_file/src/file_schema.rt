@@ -1,6 +1,6 @@
 //! The schema of a file that is written.
 
-ghost use Rattle.std.specs.Prelude.{◌≡◌, ◌++◌, true, IfOk, OnOk, map};
+ghost use Rattle.std.specs.Prelude.{◌≡◌, ◌++◌, true, if◌then◌else◌, IfOk, OnOk, map};
 ghost use Rattle.std.specs.List.{list_all};
 ghost use Rattle.lt_base.specs.declared.column.Kind.TheVariants.{Long};
 ghost use Rattle.avro_schema.specs.Printable.{begins_name as begins, goes_on_name as goes_on, is_avro_name as avro_name};
@@ -51,15 +51,24 @@ fn column_fields(alloc: Global, columns: &[Column]) -> Result<Vec<Field>, AllocE
 fn column_field(alloc: Global, plain: bool, column: &Column) -> Result<Field, AllocError>
     ensures { IfOk result (λ field. field ≡ field_of_column plain column.now) }
 {
-    let mut schema = written_type(column.kind);
-    if !column.required {
-        schema = optional_type(alloc, schema)?;
-    }
+    let schema = column_type(alloc, column)?;
     Ok(Field {
         name: field_name(alloc, plain, column)?,
         id: Some(column.id),
         schema,
     })
+}
+
+/// The type of a column's field: bare where the column is required, else beside null.
+fn column_type(alloc: Global, column: &Column) -> Result<Schema, AllocError>
+    ensures { IfOk result (λ schema. schema ≡ (if column.now.required
+        then type_of column.now.kind else type_beside_null (type_of column.now.kind))) }
+{
+    let schema = written_type(column.kind);
+    if column.required {
+        return Ok(schema);
+    }
+    optional_type(alloc, schema)
 }
 
 /// The name of a column's field: its own where all are plain, else `f` and its id.

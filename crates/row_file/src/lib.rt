@@ -10,7 +10,8 @@
 //! | `columns` | the columns of a file, by its own schema |
 //! | `cell`, `form` | a cell that is lent from the bytes of a file, and how the cells of a field are read |
 //! | `plan`, `row` | which cell of a row each field fills; one row, lent from its bytes |
-//! | `block`, `checked` | the checks of a file's blocks; the rows of a file that was checked |
+//! | `block`, `checking` | the checks of a file's blocks; those of the whole file, in their order |
+//! | `checked` | the rows of a file that was checked |
 //! | `reading` | reading all rows of a file |
 //! | `file_schema`, `row_value`, `writing` | the schema of a file that is written; a row as a value; writing rows |
 #![tactic(auto)]
@@ -18,6 +19,7 @@
 mod block;
 mod cell;
 mod checked;
+mod checking;
 mod columns;
 mod field;
 mod file_schema;

@@ -50,8 +50,15 @@ fn read_all(
     ensures exact { Gives is_memory (λ rows. rows) result
         (rows_of bytes.now columns.now first sequence told) }
 {
-    let mut shown = check_file(alloc, bytes, columns, first, sequence, told)?;
-    Ok(all_rows(alloc, &mut shown)?)
+    let shown = check_file(alloc, bytes, columns, first, sequence, told)?;
+    Ok(rows_left(alloc, shown)?)
+}
+
+/// The rows that were not shown. What was lent of the file is let go.
+fn rows_left(alloc: Global, mut shown: CheckedRows<'_>) -> Result<RowList, AllocError>
+    ensures { IfOk result (λ rows. rows ≡ shown.entry.left) }
+{
+    all_rows(alloc, &mut shown)
 }
 
 /// The rows that were not shown.

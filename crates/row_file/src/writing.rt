@@ -1,15 +1,18 @@
 //! Writing the rows of a data file.
 
-ghost use Rattle.std.specs.Prelude.{◌≡◌, ◌∷◌, ◌++◌, [], true, All, codes, length, map, IfOk, OnOk};
+ghost use Rattle.std.specs.Prelude.{◌≡◌, ◌∷◌, ◌++◌, [], true, All, codes, length, map, Ok, IfOk, OnOk};
 ghost use Rattle.words.specs.Reading.{Gives, never};
 ghost use Rattle.lt_base.specs.Columns.{IsColumns};
 ghost use Rattle.lt_base.specs.Fits.{fits_row};
+ghost use Rattle.avro_schema.specs.Printing.{schema_text};
+ghost use Rattle.avro_schema.specs.Printable.{IsPrintable};
+ghost use Rattle.avro_schema.specs.Reading.{schema_of};
 ghost use Rattle.avro_container.specs.Header.{schema_key, codec_key};
 ghost use Rattle.avro_container.specs.Writing.{container_text};
 ghost use Rattle.row_file.specs.Refusal.{is_memory};
 ghost use Rattle.row_file.specs.Stored.{StoresRows};
 ghost use Rattle.row_file.specs.Writing.{file_schema as schema_of_file, block_of, blocks_of, file_container, file_of, kept, within_limit};
-ghost use Rattle.row_file.specs.Written.{row_text, IsEncodedRow};
+ghost use Rattle.row_file.specs.Written.{row_text, IsEncodedRow, IsPrinted};
 
 use crate::file_schema::file_schema;
 use crate::refusal::RowRefusal;
@@ -84,26 +87,84 @@ fn file(
     ensures stores { IfOk result (λ bytes.
         StoresRows bytes columns.now (map (kept lineage) rows.now)) }
 {
-    let schema = file_schema(alloc, columns, lineage)?;
-    let text = print_schema(alloc, &schema)?;
-    let container = Container {
-        meta: header(alloc, text)?,
-        sync,
-        blocks: blocks(alloc, columns, lineage, &schema, rows)?,
-    };
+    let container = container_of(alloc, columns, sync, lineage, rows)?;
     write(alloc, &container)
 }
 
-/// The header of a file whose schema has the text.
-fn header(alloc: Global, text: Vec<u8>) -> Result<Meta, AllocError>
+/// The container of the rows. Its schema's text is read as the schema, and each row's bytes are an
+/// encoding of its value.
+fn container_of(
+    alloc: Global,
+    columns: &[Column],
+    sync: [u8; 16],
+    lineage: bool,
+    rows: &[StoredRow],
+) -> Result<Container, AllocError>
+    requires columns { IsColumns columns.now }
+    requires fits { All (λ row. fits_row columns.now row.cells ≡ true) rows.now }
+    ensures exact { IfOk result (λ container.
+        container ≡ file_container columns.now sync lineage rows.now) }
+    ensures printed { OnOk result (IsPrinted columns.now lineage) }
+    ensures encoded { OnOk result (All (IsEncodedRow columns.now lineage) rows.now) }
+{
+    let schema = file_schema(alloc, columns, lineage)?;
+    container_with(alloc, columns, sync, lineage, &schema, rows)
+}
+
+/// The same, with the schema of the file.
+fn container_with(
+    alloc: Global,
+    columns: &[Column],
+    sync: [u8; 16],
+    lineage: bool,
+    schema: &Schema,
+    rows: &[StoredRow],
+) -> Result<Container, AllocError>
+    requires columns { IsColumns columns.now }
+    requires schema { schema.now ≡ schema_of_file columns.now lineage }
+    requires fits { All (λ row. fits_row columns.now row.cells ≡ true) rows.now }
+    ensures exact { IfOk result (λ container.
+        container ≡ file_container columns.now sync lineage rows.now) }
+    ensures printed { OnOk result (IsPrinted columns.now lineage) }
+    ensures encoded { OnOk result (All (IsEncodedRow columns.now lineage) rows.now) }
+{
+    let meta = header(alloc, schema)?;
+    Ok(Container {
+        meta,
+        sync,
+        blocks: blocks(alloc, columns, lineage, schema, rows)?,
+    })
+}
+
+/// The header of a file with the schema, whose text is read as it where it can be printed.
+fn header(alloc: Global, schema: &Schema) -> Result<Meta, AllocError>
+    ensures exact { IfOk result (λ pairs.
+        pairs ≡ (schema_key, schema_text schema.now) ∷ (codec_key, codes "null") ∷ []) }
+    ensures reads_back { OnOk result (IsPrintable schema.now
+        → schema_of (schema_text schema.now) ≡ Ok schema.now) }
+{
+    let text = print_schema(alloc, schema)?;
+    Ok(pairs_of(alloc, text)?)
+}
+
+/// The pairs of the header of a file whose schema has the text.
+fn pairs_of(alloc: Global, text: Vec<u8>) -> Result<Meta, AllocError>
     ensures { IfOk result (λ pairs.
         pairs ≡ (schema_key, text.items) ∷ (codec_key, codes "null") ∷ []) }
 {
     let mut pairs = Items::new(alloc);
-    pairs.push((Text::from_str(alloc, "avro.schema")?, Bytes::from_vec(text)))?;
+    put_pair(alloc, &mut pairs, "avro.schema", Bytes::from_vec(text))?;
     let codec = Bytes::from_slice(alloc, b"null")?;
-    pairs.push((Text::from_str(alloc, "avro.codec")?, codec))?;
+    put_pair(alloc, &mut pairs, "avro.codec", codec)?;
     Ok(pairs)
+}
+
+/// Puts a pair of the key and what it is bound to.
+fn put_pair(alloc: Global, pairs: &mut Meta, key: &str, value: Bytes) -> Result<(), AllocError>
+    ensures { OnOk result (pairs.new ≡ pairs.old ++ (key.now, value) ∷ []) }
+{
+    let key = Text::from_str(alloc, key)?;
+    pairs.push((key, value))
 }
 
 /// The blocks of the rows. Each row's bytes are an encoding of its value.

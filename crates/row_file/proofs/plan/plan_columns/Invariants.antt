@@ -1,4 +1,4 @@
-use Rattle.std.proofs.Common.{◌≡◌, ◌≤◌, length, drop}
+use Rattle.std.proofs.Common.{◌≡◌, length, drop}
 use Rattle.row_file.specs.Planning.{aims_from, all_planned}
 use Rattle.row_file.proofs.plan.plan_columns.Given as goal
 
