@@ -16,7 +16,7 @@ ghost use Rattle.row_file.specs.Checked.{IsRest, rest_of_file};
 
 use crate::block::rows_told;
 use crate::cell::CellRef;
-use crate::checking::{check_before_rows, checked_row, layout_of};
+use crate::checking::{checked_layout, checked_row};
 use crate::lineage::{row_id, row_last};
 use crate::opening::open_file;
 use crate::refusal::RowRefusal;
@@ -191,8 +191,7 @@ fn check_opened<'a>(
     ensures exact { Gives is_memory (λ rows. rows.left) result
         (rows_opened columns.now first sequence told (walk.entry.whole, schema)) }
 {
-    check_before_rows(&mut walk, &schema, columns)?;
-    let layout = layout_of(alloc, schema, columns)?;
+    let layout = checked_layout(alloc, &mut walk, schema, columns)?;
     show_checked(alloc, walk, layout, first, sequence, told)
 }
 

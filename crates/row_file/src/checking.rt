@@ -18,9 +18,29 @@ use avro_schema::Schema;
 use lt_base::Columns;
 use std::alloc::{AllocError, Global};
 
+/// Checks what comes before the rows of the file, and returns how they are read for these columns.
+pub fn checked_layout<'a>(
+    alloc: Global,
+    walk: &mut Walk<'_>,
+    schema: Schema,
+    columns: &'a Columns,
+) -> Result<Layout<'a>, RowRefusal>
+    ensures exact { Gives is_memory (λ _. tt) result
+        (check_before_rows columns.now schema walk.old.whole.blocks) }
+    ensures schema { IfOk result (λ layout. layout.schema ≡ schema) }
+    ensures columns { IfOk result (λ layout. layout.columns.now ≡ columns.now) }
+    ensures plan { IfOk result (λ layout.
+        IsPlan layout.columns.now (fields_of layout.schema) layout.steps.items) }
+    ensures counts { OnOk result (check_counts 0 walk.new.whole.blocks ≡ Ok tt) }
+    ensures whole { walk.new.whole ≡ walk.old.whole }
+{
+    check_before_rows(walk, &schema, columns)?;
+    Ok(layout_of(alloc, schema, columns)?)
+}
+
 /// Whether the columns can be read from the file's fields, and its blocks say together that they
 /// have no more rows than a file may have.
-pub fn check_before_rows(
+fn check_before_rows(
     walk: &mut Walk<'_>,
     schema: &Schema,
     columns: &Columns,
@@ -37,7 +57,7 @@ pub fn check_before_rows(
 }
 
 /// How the rows of a file with the schema are read for these columns.
-pub fn layout_of<'a>(
+fn layout_of<'a>(
     alloc: Global,
     schema: Schema,
     columns: &'a Columns,
