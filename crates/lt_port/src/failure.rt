@@ -1,11 +1,11 @@
 //! How a call on the outside fails.
 
 /// The call failed: the outside's count of faults says so.
-#[derive(Clone, Copy, Debug, PartialEq, Eq)]
+#[derive(Clone, Copy, PartialEq, Eq)]
 pub struct Failed;
 
 /// Why a call that may want memory failed.
-#[derive(Clone, Copy, Debug, PartialEq, Eq)]
+#[derive(Clone, Copy, PartialEq, Eq)]
 pub enum PortError {
     /// The outside failed: its count of faults says so.
     Failed,

@@ -3,36 +3,14 @@
 //!
 //! | Module | What it has |
 //! |---|---|
-//! | `command` | what the words of a command line ask for |
-//! | `run` | a run of the program over any source and sinks |
-//! | `input`, `output` | reading a source to its end, writing text to a sink |
-//! | `rows` | answering with the rows of a data file |
-//! | `audit` | answering whether the history of a report is legal |
-//! | `printing` | printing rows, one line each |
-//! | `ending` | the status and the line of a run that doesn't answer |
 //! | `standard` | readers and writers as sources and sinks |
 #![tactic(auto)]
 
-mod audit;
-#[cfg(test)]
-mod audit_tests;
-mod command;
-mod ending;
-mod input;
-mod output;
-mod printing;
-mod rows;
-#[cfg(test)]
-mod rows_tests;
-mod run;
 mod standard;
-#[cfg(test)]
-mod tests;
 
-use crate::ending::{Ending, status_of, tell};
-use crate::run::run_alone;
 use crate::standard::{ReaderSource, WriterSink};
 use avro_wire::Text;
+use lineage_cli::{Ending, run_alone, status_of, tell};
 use std::env;
 use std::io::ErrorKind;
 use std::process::ExitCode;

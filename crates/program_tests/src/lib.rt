@@ -1,0 +1,27 @@
+//! Tests of whole runs of the program, and of the sources and sinks in memory that they use.
+//!
+//! | Module | What it has |
+//! |---|---|
+//! | `running` | a run in a table: its words and its input, and how it ends |
+//! | `words` | words that ask for no command |
+//! | `files` | `rows` of data files, with their lines or their refusals |
+//! | `lineage` | the ids and the last changes in the lines of `rows` |
+//! | `audits` | `audit` of reports |
+//! | `outside` | calls that fail or move few bytes, and inputs at their limits |
+//! | `ports` | sources and sinks in memory, each through its trait |
+#![tactic(auto)]
+
+#[cfg(test)]
+mod audits;
+#[cfg(test)]
+mod files;
+#[cfg(test)]
+mod lineage;
+#[cfg(test)]
+mod outside;
+#[cfg(test)]
+mod ports;
+#[cfg(test)]
+mod running;
+#[cfg(test)]
+mod words;
