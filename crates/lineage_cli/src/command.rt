@@ -7,7 +7,7 @@ use avro_wire::Text;
 use itoa::Buffer;
 
 /// A command and its arguments.
-#[derive(Clone, Copy, Debug, PartialEq, Eq)]
+#[derive(Clone, Copy)]
 pub enum Command {
     /// The rows of one data file. `first`: its first row id; `None`: it has none. `sequence`: its
     /// data sequence number. Both are of 63 bits.

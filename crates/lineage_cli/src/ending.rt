@@ -26,7 +26,7 @@ use row_file::RowRefusal;
 use std::alloc::Global;
 
 /// Why a run doesn't answer.
-#[derive(Debug, Drop)]
+#[derive(Drop)]
 pub enum Ending {
     /// The words have the form of no command.
     Usage,

@@ -13,7 +13,7 @@ use std::alloc::{AllocError, Global};
 const PIECE_BYTES: usize = 65_536;
 
 /// Why an input was not read.
-#[derive(Clone, Copy, Debug, PartialEq, Eq)]
+#[derive(Clone, Copy)]
 pub enum InputRefusal {
     /// The source failed.
     Fault,

@@ -27,32 +27,32 @@ const DIGITS: &[u8; 16] = b"0123456789abcdef";
 pub fn print_rows<W: Sink>(
     alloc: Global,
     out: &mut W,
-    rows: CheckedRows<'_>,
+    mut rows: CheckedRows<'_>,
 ) -> Result<(), PortError>
     ensures text { Puts (W.written out.old) (W.written out.new) result (lines rows.entry.left) }
     ensures cause { HasCause (W.faults out.old) (W.faults out.new)
         (IsErrOf result PortError.Failed) }
 {
     let mut buffer = Vec::new(alloc);
-    put_rows(out, &mut buffer, rows)?;
+    put_rows(out, &mut buffer, &mut rows)?;
     flush(out, &mut buffer)
 }
 
-/// Puts a line for each of the rows.
+/// Puts a line for each of the rows that were not shown.
 #[tactic(auto, using(crate::proofs::PrintLemmas::row_by_row))]
 fn put_rows<W: Sink>(
     out: &mut W,
     buffer: &mut Vec<u8>,
-    mut rows: CheckedRows<'_>,
+    rows: &mut CheckedRows<'_>,
 ) -> Result<(), PortError>
     ensures text { Shows (W.written out.old) buffer.old.items
         (W.written out.new) buffer.new.items result
-        (lines rows.entry.left) }
+        (lines rows.old.left) }
     ensures cause { HasCause (W.faults out.old) (W.faults out.new)
         (IsErrOf result PortError.Failed) }
 {
     while rows.advance() {
-        put_row(out, buffer, &rows)?;
+        put_row(out, buffer, rows)?;
     }
     Ok(())
 }
