@@ -77,14 +77,22 @@ fn legal_text(alloc: Global, entries: usize, state: &State) -> Result<String, Al
     ensures { IfOk result (λ text. string_bytes text ≡ legal_line entries state.now) }
 {
     let mut text = String::new(alloc);
-    text.push_str("legal ")?;
-    put_unsigned(&mut text, entries as u64)?;
-    text.push_str(" ")?;
-    put_sum(&mut text, state.rows.len(), state.unnamed.len())?;
-    text.push_str(" ")?;
-    put_optional_long(&mut text, state.next)?;
-    text.push_str("\n")?;
+    put_legal_line(&mut text, entries, state)?;
     Ok(text)
+}
+
+/// Puts the same line behind `out`.
+fn put_legal_line(out: &mut String, entries: usize, state: &State) -> Result<(), AllocError>
+    ensures { OnOk result (string_bytes out.new
+        ≡ string_bytes out.old ++ legal_line entries state.now) }
+{
+    out.push_str("legal ")?;
+    put_unsigned(out, entries as u64)?;
+    out.push_str(" ")?;
+    put_sum(out, state.rows.len(), state.unnamed.len())?;
+    out.push_str(" ")?;
+    put_optional_long(out, state.next)?;
+    out.push_str("\n")
 }
 
 /// Puts the sum of two counts behind `out`.

@@ -34,8 +34,22 @@ pub fn print_rows<W: Sink>(
         (IsErrOf result PortError.Failed) }
 {
     let mut buffer = Vec::new(alloc);
-    put_rows(out, &mut buffer, &mut rows)?;
-    flush(out, &mut buffer)
+    write_rows(out, &mut buffer, &mut rows)
+}
+
+/// Writes a line for each of the rows that were not shown, through the buffer, which is empty.
+fn write_rows<W: Sink>(
+    out: &mut W,
+    buffer: &mut Vec<u8>,
+    rows: &mut CheckedRows<'_>,
+) -> Result<(), PortError>
+    requires { buffer.old.items ≡ [] }
+    ensures text { Puts (W.written out.old) (W.written out.new) result (lines rows.old.left) }
+    ensures cause { HasCause (W.faults out.old) (W.faults out.new)
+        (IsErrOf result PortError.Failed) }
+{
+    put_rows(out, buffer, rows)?;
+    flush(out, buffer)
 }
 
 /// Puts a line for each of the rows that were not shown.
