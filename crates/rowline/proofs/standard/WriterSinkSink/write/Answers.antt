@@ -1,5 +1,8 @@
 use Rattle.std.proofs.Common.{rules}
 use Rattle.rowline.proofs.standard.WriterSinkSink.write.Goals as goal
 
-pub returns-in-Ok-2-clause-some : goal.returns-in-Ok-2-clause-some
-returns-in-Ok-2-clause-some g c = search rules
+pub returns-in-Ok-clause-some : goal.returns-in-Ok-clause-some
+returns-in-Ok-clause-some g c = search rules
+
+pub returns-clause-cause : goal.returns-clause-cause
+returns-clause-cause g c = search rules
