@@ -13,3 +13,12 @@ returns-clause-bytes c =
     let front = copied ∙ ap (λ n. take n (drop read bytes)) size in
     gives_front c.args.self.now.left bytes c.args.room.now new read c.self.inside.piece count
     (search rules) c.self.invariant.0 (omega arith) front
+
+pub returns-then-fails-clause-bytes : goal.returns-then-fails-clause-bytes
+returns-then-fails-clause-bytes c = search rules
+
+pub returns-then-fails-clause-cause : goal.returns-then-fails-clause-cause
+returns-then-fails-clause-cause c = search rules
+
+pub returns-then-fails-clause-faults : goal.returns-then-fails-clause-faults
+returns-then-fails-clause-faults c = search rules
