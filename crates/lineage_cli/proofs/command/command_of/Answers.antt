@@ -1,4 +1,4 @@
-use Rattle.std.proofs.Common.{◌≡◌, ℕ, ◌<◌, ◌≤◌, List, [], ◌∷◌, length, get_or, sym, ◌∙◌, arith}
+use Rattle.std.proofs.Common.{◌≡◌, ℕ, ◌<◌, ◌≤◌, List, [], ◌∷◌, length, get_or, sym, ◌∙◌, arith, rules}
 use Rattle.std.specs.Prelude.{codes}
 use Rattle.std.proofs.lemmas.Slice.Eq.{bytes_eq-Decides}
 use Rattle.lineage_cli.proofs.command.command_of.Goals as goal
@@ -33,3 +33,6 @@ pub returns-in-len1 : goal.returns-in-len1
 returns-in-len1 c =
     let name = sym c.as_str.ensures ∙ (bytes_eq-Decides c.as_str.result.now (codes "audit")).0 (sym c.eq.ensures ∙ c.if-eq.true) in
     one c.args.words.now c.name-item.result (codes "audit") c.in-len1.len_at_least c.in-len1.len_below c.name-item.is name
+
+pub returns-in_default : goal.returns-in_default
+returns-in_default c = search rules
