@@ -3,7 +3,7 @@
 //! | Module | What it has |
 //! |---|---|
 //! | `running` | a run in a table: its words and its input, and how it ends |
-//! | `words` | words that ask for no command |
+//! | `command_lines` | words that ask for no command |
 //! | `files` | `rows` of data files, with their lines or their refusals |
 //! | `lineage` | the ids and the last changes in the lines of `rows` |
 //! | `audits` | `audit` of reports |
@@ -14,6 +14,8 @@
 #[cfg(test)]
 mod audits;
 #[cfg(test)]
+mod command_lines;
+#[cfg(test)]
 mod files;
 #[cfg(test)]
 mod lineage;
@@ -23,5 +25,3 @@ mod outside;
 mod ports;
 #[cfg(test)]
 mod running;
-#[cfg(test)]
-mod words;
