@@ -1,5 +1,6 @@
 //! Which values fit a schema.
 
+use crate::rows::all_right;
 use avro_datum::{Datum, decode, fits};
 use avro_schema::{Schema, read_schema};
 use std::alloc::Global;
@@ -216,11 +217,11 @@ fn first_misjudged(alloc: Global, rows: &[Fitting]) -> Option<usize> {
 
 #[test]
 fn numbers_and_bytes_fit_by_their_size(rt: HostRuntime) {
-    assert_eq!(rt; first_misjudged(rt.alloc(), &NUMBERS), None);
-    assert_eq!(rt; first_misjudged(rt.alloc(), &BYTES), None);
+    all_right(&rt, first_misjudged(rt.alloc(), &NUMBERS));
+    all_right(&rt, first_misjudged(rt.alloc(), &BYTES));
 }
 
 #[test]
 fn what_holds_others_fits_if_they_do(rt: HostRuntime) {
-    assert_eq!(rt; first_misjudged(rt.alloc(), &PARTS), None);
+    all_right(&rt, first_misjudged(rt.alloc(), &PARTS));
 }

@@ -2,6 +2,7 @@
 //!
 //! | Module | What it tries |
 //! |---|---|
+//! | `rows` | what is asserted of a table |
 //! | `numbers`, `sized` | numbers, and what stands behind its length, in `avro_wire` |
 //! | `schemas`, `no_schemas`, `limits` | texts that are schemas, that are none, and that are too large |
 //! | `parts` | the parts of a value, as tables name them |
@@ -25,6 +26,8 @@ mod no_values;
 mod numbers;
 #[cfg(test)]
 mod parts;
+#[cfg(test)]
+mod rows;
 #[cfg(test)]
 mod schemas;
 #[cfg(test)]

@@ -1,5 +1,6 @@
 //! Texts that are no schemas, and why.
 
+use crate::rows::all_right;
 use avro_schema::{SchemaRefusal, read_schema};
 use std::alloc::Global;
 use std::test::*;
@@ -189,11 +190,16 @@ fn told_by(refusal: &SchemaRefusal) -> &str {
     }
 }
 
+/// Whether the refusal has this cause, and tells this.
+fn tells(refusal: &SchemaRefusal, cause: &str, told: &str) -> bool {
+    cause_of(refusal) == cause && told_by(refusal) == told
+}
+
 /// Whether the text is refused for this cause, and the refusal tells this.
 fn is_refused(alloc: Global, text: &[u8], cause: &str, told: &str) -> bool {
     match read_schema(alloc, text) {
         Ok(_) => false,
-        Err(refusal) => cause_of(&refusal) == cause && told_by(&refusal) == told,
+        Err(refusal) => tells(&refusal, cause, told),
     }
 }
 
@@ -210,16 +216,16 @@ fn first_accepted(alloc: Global, rows: &[Refused]) -> Option<usize> {
 
 #[test]
 fn a_place_without_a_form_is_named(rt: HostRuntime) {
-    assert_eq!(rt; first_accepted(rt.alloc(), &FORMS), None);
+    all_right(&rt, first_accepted(rt.alloc(), &FORMS));
 }
 
 #[test]
 fn a_name_that_is_not_wholly_defined_is_named(rt: HostRuntime) {
-    assert_eq!(rt; first_accepted(rt.alloc(), &NAMES), None);
+    all_right(&rt, first_accepted(rt.alloc(), &NAMES));
 }
 
 #[test]
 fn a_text_that_is_no_json_text_is_refused(rt: HostRuntime) {
-    assert_eq!(rt; first_accepted(rt.alloc(), &NOT_JSON), None);
+    all_right(&rt, first_accepted(rt.alloc(), &NOT_JSON));
     assert!(rt; is_refused(rt.alloc(), &[b'"', 0xff, b'"'], "NotJson", ""));
 }

@@ -1,5 +1,6 @@
 //! Bytes that are no values, and why: when they are decoded, and when they are skipped.
 
+use crate::rows::all_right;
 use avro_datum::{Cursor, DatumRefusal, decode, skip};
 use avro_schema::{Schema, read_schema};
 use std::alloc::{AllocError, Global};
@@ -177,13 +178,13 @@ fn first_accepted(alloc: Global, rows: &[Refused]) -> Option<usize> {
 
 #[test]
 fn what_is_no_plain_value_is_refused_where_it_begins(rt: HostRuntime) {
-    assert_eq!(rt; first_accepted(rt.alloc(), &PLAIN), None);
-    assert_eq!(rt; first_accepted(rt.alloc(), &CHOICES), None);
+    all_right(&rt, first_accepted(rt.alloc(), &PLAIN));
+    all_right(&rt, first_accepted(rt.alloc(), &CHOICES));
 }
 
 #[test]
 fn a_block_needs_its_items_a_true_size_and_a_fair_count(rt: HostRuntime) {
-    assert_eq!(rt; first_accepted(rt.alloc(), &BLOCKS), None);
+    all_right(&rt, first_accepted(rt.alloc(), &BLOCKS));
 }
 
 /// Whether the refusal is shown so.

@@ -1,5 +1,6 @@
 //! Numbers of `avro_wire`: the standard's table, both ways, and what is no number.
 
+use crate::rows::all_right;
 use avro_wire::{WireRefusal, put_long, take_int, take_long};
 use std::alloc::{AllocError, Global};
 use std::test::*;
@@ -82,18 +83,18 @@ fn first_miswritten(alloc: Global, rows: &[Spelled]) -> Result<Option<usize>, Al
 
 #[test]
 fn a_number_is_spelled_as_the_standard_says(rt: HostRuntime) -> Result<(), Fail> {
-    assert_eq!(rt; first_misread_long(&INTS), None);
-    assert_eq!(rt; first_misread_long(&LONGS), None);
-    assert_eq!(rt; first_misread_int(&INTS), None);
-    assert_eq!(rt; first_miswritten(rt.alloc(), &INTS)?, None);
-    assert_eq!(rt; first_miswritten(rt.alloc(), &LONGS)?, None);
+    all_right(&rt, first_misread_long(&INTS));
+    all_right(&rt, first_misread_long(&LONGS));
+    all_right(&rt, first_misread_int(&INTS));
+    all_right(&rt, first_miswritten(rt.alloc(), &INTS)?);
+    all_right(&rt, first_miswritten(rt.alloc(), &LONGS)?);
     Ok(())
 }
 
 #[test]
 fn a_longer_spelling_of_a_number_is_read_too(rt: HostRuntime) {
-    assert_eq!(rt; first_misread_long(&LONGER), None);
-    assert_eq!(rt; first_misread_int(&LONGER), None);
+    all_right(&rt, first_misread_long(&LONGER));
+    all_right(&rt, first_misread_int(&LONGER));
 }
 
 #[test]
@@ -167,6 +168,6 @@ fn first_taken_int(rows: &[Refused]) -> Option<usize> {
 
 #[test]
 fn what_is_no_number_is_refused_where_it_begins(rt: HostRuntime) {
-    assert_eq!(rt; first_taken_long(&NO_LONGS), None);
-    assert_eq!(rt; first_taken_int(&NO_INTS), None);
+    all_right(&rt, first_taken_long(&NO_LONGS));
+    all_right(&rt, first_taken_int(&NO_INTS));
 }

@@ -1,5 +1,6 @@
 //! Texts of schemas, as what they are read and how they are printed.
 
+use crate::rows::all_right;
 use avro_schema::{Logical, Schema, print_schema, read_schema};
 use lists::Copied;
 use std::alloc::{AllocError, Global};
@@ -119,7 +120,7 @@ fn first_of_another_kind(alloc: Global, rows: &[Kind]) -> Option<usize> {
 
 #[test]
 fn primitive_types_are_read(rt: HostRuntime) {
-    assert_eq!(rt; first_of_another_kind(rt.alloc(), &KINDS), None);
+    all_right(&rt, first_of_another_kind(rt.alloc(), &KINDS));
 }
 
 /// Two ids.
@@ -178,7 +179,7 @@ fn first_with_other_ids(alloc: Global, rows: &[WithIds]) -> Option<usize> {
 
 #[test]
 fn an_id_is_that_of_its_member(rt: HostRuntime) {
-    assert_eq!(rt; first_with_other_ids(rt.alloc(), &IDS), None);
+    all_right(&rt, first_with_other_ids(rt.alloc(), &IDS));
 }
 
 /// Texts that are printed as they stand.
@@ -322,18 +323,18 @@ fn first_misprinted(alloc: Global, rows: &[Otherwise]) -> Result<Option<usize>, 
 
 #[test]
 fn a_schema_is_read_as_it_is_printed(rt: HostRuntime) -> Result<(), Fail> {
-    assert_eq!(rt; first_not_printed(rt.alloc(), &PRINTED)?, None);
+    all_right(&rt, first_not_printed(rt.alloc(), &PRINTED)?);
     Ok(())
 }
 
 #[test]
 fn members_may_stand_in_any_order(rt: HostRuntime) -> Result<(), Fail> {
-    assert_eq!(rt; first_misprinted(rt.alloc(), &ORDERED)?, None);
+    all_right(&rt, first_misprinted(rt.alloc(), &ORDERED)?);
     Ok(())
 }
 
 #[test]
 fn names_stand_for_what_they_were_defined_as(rt: HostRuntime) -> Result<(), Fail> {
-    assert_eq!(rt; first_misprinted(rt.alloc(), &NAMED)?, None);
+    all_right(&rt, first_misprinted(rt.alloc(), &NAMED)?);
     Ok(())
 }

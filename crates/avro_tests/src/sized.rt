@@ -1,5 +1,6 @@
 //! Bytes and texts of `avro_wire`: behind their length, and by themselves.
 
+use crate::rows::all_right;
 use avro_wire::{Bytes, Text, WireRefusal, put_bytes, put_long, take_bytes, text_of};
 use std::alloc::{AllocError, Global};
 use std::test::*;
@@ -55,18 +56,25 @@ fn first_taken(rows: &[Refused]) -> Option<usize> {
 
 #[test]
 fn bytes_are_taken_behind_their_length(rt: HostRuntime) {
-    assert_eq!(rt; first_mistaken(&TAKEN), None);
-    assert_eq!(rt; first_taken(&REFUSED), None);
+    all_right(&rt, first_mistaken(&TAKEN));
+    all_right(&rt, first_taken(&REFUSED));
+}
+
+/// A byte that was there, the standard's example, a number, and no bytes.
+static BEHIND: [u8; 8] = [0x09, 0x06, 0x66, 0x6f, 0x6f, 0x80, 0x01, 0x00];
+
+/// Whether these are put one behind the other.
+fn are_put(alloc: Global) -> Result<bool, AllocError> {
+    let mut out = Vec::from_slice(alloc, &[0x09])?;
+    put_bytes(&mut out, b"foo")?;
+    put_long(&mut out, 64)?;
+    put_bytes(&mut out, b"")?;
+    Ok(out.as_slice() == BEHIND.as_slice())
 }
 
 #[test]
 fn items_are_put_behind_the_bytes_that_are_there(rt: HostRuntime) -> Result<(), Fail> {
-    let mut out = vec![in rt.alloc(); 0x09]?;
-    put_bytes(&mut out, b"foo")?;
-    put_long(&mut out, 64)?;
-    put_bytes(&mut out, b"")?;
-    let expected = [0x09, 0x06, 0x66, 0x6f, 0x6f, 0x80, 0x01, 0x00];
-    assert_eq!(rt; out.as_slice(), expected.as_slice());
+    assert!(rt; are_put(rt.alloc())?);
     Ok(())
 }
 
@@ -75,18 +83,34 @@ fn is_shown(alloc: Global, refusal: WireRefusal, shown: &str) -> Result<bool, Al
     Ok(format!(in alloc; "{refusal}")?.as_str() == shown)
 }
 
+/// A refusal, and how it is shown.
+type Shown = (WireRefusal, &'static str);
+
+static SHOWN: [Shown; 2] = [
+    (
+        WireRefusal::Short { place: 7 },
+        "the input ends inside the item at byte 7",
+    ),
+    (
+        WireRefusal::TooLong { place: 7 },
+        "no item can stand at byte 7",
+    ),
+];
+
+/// The first row whose refusal isn't shown so.
+fn first_misshown(alloc: Global, rows: &[Shown]) -> Result<Option<usize>, AllocError> {
+    for number in 0..rows.len() {
+        let row = &rows[number];
+        if !is_shown(alloc, row.0, row.1)? {
+            return Ok(Some(number));
+        }
+    }
+    Ok(None)
+}
+
 #[test]
 fn a_refusal_names_its_place(rt: HostRuntime) -> Result<(), Fail> {
-    let short = WireRefusal::Short { place: 7 };
-    assert!(rt;
-        is_shown(
-            rt.alloc(),
-            short,
-            "the input ends inside the item at byte 7"
-        )?
-    );
-    let too_long = WireRefusal::TooLong { place: 7 };
-    assert!(rt; is_shown(rt.alloc(), too_long, "no item can stand at byte 7")?);
+    all_right(&rt, first_misshown(rt.alloc(), &SHOWN)?);
     Ok(())
 }
 
@@ -115,8 +139,13 @@ fn first_mistold(rows: &[Told]) -> Option<usize> {
 fn keeps_text(alloc: Global, whole: &str) -> Result<bool, AllocError> {
     let text = Text::from_str(alloc, whole)?;
     let copy = text.copy(alloc)?;
-    let string = Text::from_string(String::from_str(alloc, whole)?);
-    Ok(text.as_str() == whole && copy.as_str() == whole && string.as_str() == whole)
+    Ok(text.as_str() == whole && copy.as_str() == whole)
+}
+
+/// Whether a text keeps the characters of the string that it is made of.
+fn keeps_string(alloc: Global, whole: &str) -> Result<bool, AllocError> {
+    let string = String::from_str(alloc, whole)?;
+    Ok(Text::from_string(string).as_str() == whole)
 }
 
 /// Whether bytes keep the values that they are made of, and a copy has them too.
@@ -127,10 +156,18 @@ fn keeps_bytes(alloc: Global, whole: &[u8]) -> Result<bool, AllocError> {
     Ok(copy.as_slice() == whole && again.as_slice() == whole)
 }
 
+/// Whether texts and bytes keep what they are made of.
+fn keep_all(alloc: Global) -> Result<bool, AllocError> {
+    Ok(
+        keeps_text(alloc, "snö")?
+            && keeps_string(alloc, "snö")?
+            && keeps_bytes(alloc, &[0, 255, 10])?,
+    )
+}
+
 #[test]
 fn texts_and_bytes_keep_what_they_are_made_of(rt: HostRuntime) -> Result<(), Fail> {
-    assert_eq!(rt; first_mistold(&TOLD), None);
-    assert!(rt; keeps_text(rt.alloc(), "snö")?);
-    assert!(rt; keeps_bytes(rt.alloc(), &[0, 255, 10])?);
+    all_right(&rt, first_mistold(&TOLD));
+    assert!(rt; keep_all(rt.alloc())?);
     Ok(())
 }

@@ -1,6 +1,7 @@
 //! Bytes that are values: decoded, skipped and written.
 
 use crate::parts::{Part, are_parts_of};
+use crate::rows::all_right;
 use crate::schemas::ROW_SCHEMA;
 use avro_datum::{Cursor, Datum, decode, encode, skip};
 use avro_schema::{Schema, read_schema};
@@ -304,20 +305,20 @@ fn first_misread(alloc: Global, rows: &[Case]) -> Result<Option<usize>, AllocErr
 
 #[test]
 fn the_standards_examples_are_read_and_written(rt: HostRuntime) -> Result<(), Fail> {
-    assert_eq!(rt; first_misread(rt.alloc(), &EXAMPLES)?, None);
-    assert_eq!(rt; first_misread(rt.alloc(), &PLAIN)?, None);
+    all_right(&rt, first_misread(rt.alloc(), &EXAMPLES)?);
+    all_right(&rt, first_misread(rt.alloc(), &PLAIN)?);
     Ok(())
 }
 
 #[test]
 fn the_rows_of_a_file_are_read_by_its_schema(rt: HostRuntime) -> Result<(), Fail> {
-    assert_eq!(rt; first_misread(rt.alloc(), &ROWS)?, None);
+    all_right(&rt, first_misread(rt.alloc(), &ROWS)?);
     Ok(())
 }
 
 #[test]
 fn any_blocks_are_read_and_one_is_written(rt: HostRuntime) -> Result<(), Fail> {
-    assert_eq!(rt; first_misread(rt.alloc(), &BLOCKS)?, None);
+    all_right(&rt, first_misread(rt.alloc(), &BLOCKS)?);
     Ok(())
 }
 
@@ -409,11 +410,11 @@ fn first_misdecoded(alloc: Global, rows: &[Placed]) -> Option<usize> {
 
 #[test]
 fn a_value_is_read_and_skipped_from_its_place(rt: HostRuntime) {
-    assert_eq!(rt; first_misdecoded(rt.alloc(), &PLACED), None);
-    assert_eq!(rt; first_misskipped(rt.alloc(), &PLACED), None);
+    all_right(&rt, first_misdecoded(rt.alloc(), &PLACED));
+    all_right(&rt, first_misskipped(rt.alloc(), &PLACED));
 }
 
 #[test]
 fn items_of_no_bytes_are_skipped_at_once(rt: HostRuntime) {
-    assert_eq!(rt; first_misskipped(rt.alloc(), &OF_NO_BYTES), None);
+    all_right(&rt, first_misskipped(rt.alloc(), &OF_NO_BYTES));
 }
