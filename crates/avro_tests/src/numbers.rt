@@ -1,6 +1,6 @@
 //! Numbers of `avro_wire`: the standard's table, both ways, and what is no number.
 
-use crate::rows::all_right;
+use crate::rows::{all_made, all_right};
 use avro_wire::{WireRefusal, put_long, take_int, take_long};
 use std::alloc::{AllocError, Global};
 use std::test::*;
@@ -82,13 +82,12 @@ fn first_miswritten(alloc: Global, rows: &[Spelled]) -> Result<Option<usize>, Al
 }
 
 #[test]
-fn a_number_is_spelled_as_the_standard_says(rt: HostRuntime) -> Result<(), Fail> {
+fn a_number_is_spelled_as_the_standard_says(rt: HostRuntime) {
     all_right(&rt, first_misread_long(&INTS));
     all_right(&rt, first_misread_long(&LONGS));
     all_right(&rt, first_misread_int(&INTS));
-    all_right(&rt, first_miswritten(rt.alloc(), &INTS)?);
-    all_right(&rt, first_miswritten(rt.alloc(), &LONGS)?);
-    Ok(())
+    all_made(&rt, first_miswritten(rt.alloc(), &INTS));
+    all_made(&rt, first_miswritten(rt.alloc(), &LONGS));
 }
 
 #[test]
