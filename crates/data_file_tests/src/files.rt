@@ -110,26 +110,47 @@ pub enum Refused {
 /// Whether this is the refusal.
 pub fn is_refused(refusal: &RowRefusal, wanted: &Refused) -> bool {
     match refusal {
-        RowRefusal::Schema(SchemaRefusal::Form { path }) => {
-            matches!(wanted, Refused::Form(other) if *other == path.as_str())
-        }
+        RowRefusal::Schema(refusal) => is_no_schema(refusal, wanted),
         RowRefusal::MissingColumn { id } => {
             matches!(wanted, Refused::MissingColumn(other) if *other == *id)
         }
         RowRefusal::Kind { id } => matches!(wanted, Refused::Kind(other) if *other == *id),
-        RowRefusal::Datum(DatumRefusal::Short { place }) => {
-            matches!(wanted, Refused::Short(other) if *other == *place)
-        }
-        RowRefusal::Datum(DatumRefusal::Branch { place }) => {
-            matches!(wanted, Refused::Branch(other) if *other == *place)
-        }
-        RowRefusal::Rest { block } => matches!(wanted, Refused::Rest(other) if *other == *block),
+        RowRefusal::Datum(refusal) => is_no_datum(*refusal, wanted),
         RowRefusal::RecordCount { told, found } => {
             matches!(wanted, Refused::RecordCount(first, second) if *first == *told && *second == *found)
         }
         RowRefusal::IdsSpent { first, rows } => {
             matches!(wanted, Refused::IdsSpent(low, many) if *low == *first && *many == *rows)
         }
+        refusal => is_of_blocks(refusal, wanted),
+    }
+}
+
+/// Whether this is the refusal of a schema.
+fn is_no_schema(refusal: &SchemaRefusal, wanted: &Refused) -> bool {
+    match refusal {
+        SchemaRefusal::Form { path } => {
+            matches!(wanted, Refused::Form(other) if *other == path.as_str())
+        }
+        _ => false,
+    }
+}
+
+/// Whether this is the refusal of a row's bytes.
+fn is_no_datum(refusal: DatumRefusal, wanted: &Refused) -> bool {
+    match refusal {
+        DatumRefusal::Short { place } => matches!(wanted, Refused::Short(other) if *other == place),
+        DatumRefusal::Branch { place } => {
+            matches!(wanted, Refused::Branch(other) if *other == place)
+        }
+        _ => false,
+    }
+}
+
+/// Whether this is the refusal of a block or of all their rows.
+fn is_of_blocks(refusal: &RowRefusal, wanted: &Refused) -> bool {
+    match refusal {
+        RowRefusal::Rest { block } => matches!(wanted, Refused::Rest(other) if *other == *block),
         RowRefusal::Limit {
             which: Which::FileRows,
             found,
