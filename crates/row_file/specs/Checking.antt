@@ -1,5 +1,5 @@
 -- The checks of a file that was opened: what comes before its rows, and then its rows.
--- They are the parts of rows_of (specs/File.antt), for the calls that make one of them each.
+-- Each is a part of rows_of (specs/File.antt), which one call checks or reads.
 use Rattle.std.specs.Prelude.{◌≡◌, ◌≤◌, ◌^◌, ℤ, pos, ◌+ℤ◌, ◌<ℤ◌, true, List, [], length, Option, Result, Ok, is_ok, IfSome}
 use Rattle.words.specs.Reading.{◌>>=◌, map_value, value_or}
 use Rattle.lt_base.specs.declared.column.Column.{Column}
