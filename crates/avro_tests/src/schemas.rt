@@ -285,10 +285,10 @@ fn prints(alloc: Global, schema: &Schema, printed: &str) -> Result<bool, AllocEr
     Ok(print_schema(alloc, schema)?.as_slice() == printed.as_bytes())
 }
 
-/// Whether a copy of the schema is printed so.
+/// Whether the schema is printed so, and a copy of it.
 fn prints_copied(alloc: Global, schema: &Schema, printed: &str) -> Result<bool, AllocError> {
     let copy = schema.copy(alloc)?;
-    prints(alloc, &copy, printed)
+    Ok(prints(alloc, schema, printed)? && prints(alloc, &copy, printed)?)
 }
 
 /// Whether the text is a schema, and is printed so.

@@ -325,6 +325,7 @@ struct Placed {
     bytes: &'static [u8],
     from: Cursor,
     after: Cursor,
+    parts: &'static [Part],
 }
 
 static PLACED: [Placed; 2] = [
@@ -333,12 +334,14 @@ static PLACED: [Placed; 2] = [
         bytes: &[0xff, 0x04, 0x06, 0x36, 0x00, 0xff],
         from: Cursor { place: 1, items: 5 },
         after: Cursor { place: 5, items: 7 },
+        parts: &[Part::Array(2), Part::Num(3), Part::Num(27)],
     },
     Placed {
         schema: LONGS,
         bytes: &[0xff, 0x02, 0x06, 0x00, 0xff],
         from: Cursor { place: 1, items: 0 },
         after: Cursor { place: 4, items: 1 },
+        parts: &[Part::Array(1), Part::Num(3)],
     },
 ];
 
@@ -351,6 +354,7 @@ static OF_NO_BYTES: [Placed; 1] = [Placed {
         place: 5,
         items: 16_777_216,
     },
+    parts: &[],
 }];
 
 /// Whether the value is skipped to its end.
@@ -376,13 +380,13 @@ fn first_misskipped(alloc: Global, rows: &[Placed]) -> Option<usize> {
     None
 }
 
-/// Whether the value is decoded to its end.
+/// Whether the value is these parts, and is decoded to its end.
 fn is_decoded_by(alloc: Global, schema: &Schema, row: &Placed) -> bool {
     if row.from.place > row.bytes.len() {
         return false;
     }
     match decode(alloc, schema, row.bytes, row.from.place) {
-        Ok((_, after)) => after == row.after.place,
+        Ok((datum, after)) => after == row.after.place && are_parts_of(row.parts, &datum),
         Err(_) => false,
     }
 }

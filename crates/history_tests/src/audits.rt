@@ -453,7 +453,7 @@ static NAMING: [Line; 2] = [UPGRADE, (Append(1), Some(3), &[(4, 1)], &[(6, 1)], 
 /// Whether the row has this last change, and one cell with this number.
 fn is_row(row: &(i64, Cells), last: i64, number: i64) -> bool {
     match row.1.get(0) {
-        Some(Cell::Num(found)) => row.0 == last && *found == number,
+        Some(Cell::Num(found)) => row.0 == last && *found == number && row.1.len() == 1,
         _ => false,
     }
 }

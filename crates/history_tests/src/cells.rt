@@ -130,8 +130,10 @@ const TWO_ROWS: &str = r#"append 1 "a" ; 2 null"#;
 
 /// How many cells the row at the place has, and the place after it. `None`: it is refused.
 fn row_end(alloc: Global, place: usize, columns: &Columns) -> Option<(usize, usize)> {
-    let start = TWO_ROWS.len().min(place);
-    match take_cells(alloc, TWO_ROWS, start, columns.as_slice()) {
+    if place > TWO_ROWS.len() {
+        return None;
+    }
+    match take_cells(alloc, TWO_ROWS, place, columns.as_slice()) {
         Ok((cells, after)) => Some((cells.len(), after)),
         Err(_) => None,
     }
@@ -141,7 +143,10 @@ fn row_end(alloc: Global, place: usize, columns: &Columns) -> Option<(usize, usi
 /// no number.
 fn number_end(alloc: Global, place: usize, columns: &Columns) -> Option<(i64, usize)> {
     let column = columns.get(0)?;
-    match take_cell(alloc, TWO_ROWS, TWO_ROWS.len().min(place), column) {
+    if place > TWO_ROWS.len() {
+        return None;
+    }
+    match take_cell(alloc, TWO_ROWS, place, column) {
         Ok((Cell::Num(number), after)) => Some((number, after)),
         _ => None,
     }

@@ -38,10 +38,10 @@ static LITERALS: [Line; 23] = [
 
 /// Whether the literal at the place is read as the line says.
 fn is_read(alloc: Global, line: &Line) -> bool {
-    match (
-        take_literal(alloc, line.0, line.0.len().min(line.1)),
-        line.2,
-    ) {
+    if line.1 > line.0.len() {
+        return false;
+    }
+    match (take_literal(alloc, line.0, line.1), line.2) {
         (Ok(read), Ok(wanted)) => read.0.as_str() == wanted.0 && read.1 == wanted.1,
         (Err(PieceRefusal::Syntax { place }), Err(wanted)) => place == wanted,
         _ => false,

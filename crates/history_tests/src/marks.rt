@@ -44,11 +44,14 @@ static PIECES: [Taken; 21] = [
     ("ab", 1, Piece::End, Err(1)),
 ];
 
-/// The place after what is taken.
+/// The place after what is taken. A place behind the text is refused there.
 fn take(line: &Taken) -> Result<usize, PieceRefusal> {
-    let text = line.0;
-    let place = text.len().min(line.1);
-    match &line.2 {
+    let (text, place, piece, _) = line;
+    let place = *place;
+    if place > text.len() {
+        return Err(PieceRefusal::Syntax { place: u64::MAX });
+    }
+    match piece {
         Piece::Word(word) => take_word(text, place, word),
         Piece::Byte(byte) => take_byte(text, place, *byte),
         Piece::Spaces => Ok(skip_spaces(text, place)),

@@ -11,7 +11,16 @@ use std::alloc::{AllocError, Global};
 use std::test::*;
 
 /// Texts of requests about two columns.
-static TEXTS: [Line; 20] = [
+static TEXTS: [Line; 22] = [
+    // A mark inside a literal parts nothing.
+    (
+        r#"append -7 "a \"b\" ; c\n" ; 0 null ; 9 """#,
+        Printed(r#"append -7 "a \"b\" ; c\n" ; 0 null ; 9 """#),
+    ),
+    (
+        r#"compact "data/x y.avro" "\"" """#,
+        Printed(r#"compact "data/x y.avro" "\"" """#),
+    ),
     // Rows are parted by semicolons with or without spaces.
     (r#"append 1 "a""#, Printed(r#"append 1 "a""#)),
     (
