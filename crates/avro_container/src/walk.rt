@@ -10,9 +10,11 @@ use crate::block::{SYNC_BYTES, take_frame};
 use crate::container::Meta;
 use crate::header::{take_header, take_part};
 use crate::refusal::ContainerRefusal;
-use lt_base::OBJECT;
 use std::alloc::Global;
 use std::marker::Model;
+
+/// The most bytes of a file.
+const MOST_BYTES: u64 = 67_108_864;
 
 /// The blocks of a container, lent one after the other from bytes whose framing was checked whole.
 /// Contracts see the container, and those of its blocks that are left.
@@ -107,7 +109,7 @@ pub fn open_walk(alloc: Global, input: &[u8]) -> Result<Walk<'_>, ContainerRefus
     ensures ahead { IfOk result (λ walk. walk.ahead ≤ length input.now) }
     ensures from_first { IfOk result (λ walk. walk.from_first ≡ walk.ahead) }
 {
-    if input.len() as u64 > OBJECT {
+    if input.len() as u64 > MOST_BYTES {
         return Err(ContainerRefusal::Limit {
             found: input.len() as u64,
         });

@@ -1,8 +1,8 @@
 //! The columns of files, by their own schemas.
 
 use crate::files::{Named, Refused, are_columns, file_of, is_refused};
-use lt_base::{Columns, Kind};
 use row_file::{RowRefusal, file_columns};
+use row_types::{Columns, Kind};
 use std::alloc::{AllocError, Global};
 use std::test::*;
 

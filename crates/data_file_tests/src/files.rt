@@ -4,8 +4,9 @@ use avro_container::{Block, Blocks, Container, Meta, write};
 use avro_datum::DatumRefusal;
 use avro_schema::SchemaRefusal;
 use avro_wire::{Bytes, Text};
-use lt_base::{Column, Columns, Kind, Which};
+use limits::Which;
 use row_file::RowRefusal;
+use row_types::{Column, Columns, Kind};
 use sqlite_items::Items;
 use std::alloc::{AllocError, Global};
 

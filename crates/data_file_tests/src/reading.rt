@@ -1,8 +1,8 @@
 //! The rows of files, or their refusals.
 
 use crate::files::{Named, Refused, Told, columns_of, file_of, is_refused};
-use lt_base::{Cell, Columns, Kind, Row, RowList};
 use row_file::{CellRef, RowRefusal, read_rows};
+use row_types::{Cell, Columns, Kind, Row, RowList};
 use std::alloc::{AllocError, Global};
 use std::test::*;
 

@@ -2,15 +2,15 @@
 
 ghost use Rattle.std.specs.Prelude.{◌≡◌, true, All};
 ghost use Rattle.std.specs.Bool.{OnTrue};
-ghost use Rattle.lt_base.specs.Fits.{fits, fits_row, has_number};
+ghost use Rattle.row_types.specs.Fits.{fits, fits_row, has_number};
 
 use crate::files::{Named, are_columns, columns_of};
 use avro_container::{Block, bound_to, read};
 use avro_schema::{Field, Schema, read_schema};
 use avro_wire::{Bytes, Text};
 use lists::List;
-use lt_base::{Cell, Column, Columns, Kind, StoredRow, StoredRows};
 use row_file::{file_columns, write_rows};
+use row_types::{Cell, Column, Columns, Kind, StoredRow, StoredRows};
 use std::alloc::{AllocError, Global};
 use std::test::*;
 
@@ -93,7 +93,7 @@ fn is_cell(column: &Column, cell: &Cell) -> bool
 }
 
 /// Whether the cells are such, one in each of the two columns.
-#[tactic(auto, unfolding(lt_base::specs::Fits::fits_row))]
+#[tactic(auto, unfolding(row_types::specs::Fits::fits_row))]
 fn is_row(columns: &[Column], cells: &[Cell]) -> bool
     ensures { OnTrue result (fits_row columns.now cells.now ≡ true) }
 {

@@ -9,7 +9,7 @@ use Rattle.std.specs.Option.{SomeIff}
 use Rattle.std.specs.declared.option.Option.{Option}
 use Rattle.std.proofs.lemmas.Int.{ints, by_lt_z}
 use Rattle.std.proofs.lemmas.List.{at_drop_all}
-use Rattle.lt_base.specs.declared.entry.Run.{Run}
+use Rattle.history_types.specs.declared.entry.Run.{Run}
 use Rattle.lineage_model.specs.Ids.{ids_from, how_many, ids_of_run, ids_of}
 use Rattle.history_log.specs.Ids.{rise_within, rise_behind}
 use Rattle.history_log.proofs.IdsLemmas.{none_of_run, first_of_run, next_run}

@@ -3,10 +3,10 @@ use Rattle.std.proofs.Common.{◌≡◌, ℕ, ℤ, List, Option, Result, Ok, Err
 use Rattle.std.specs.Bool.{OnFalse}
 use Rattle.words.specs.Reading.{◌>>=◌, map_refusal}
 use Rattle.words.specs.Laws.{refused_so}
-use Rattle.lt_base.specs.declared.column.Column.{Column}
-use Rattle.lt_base.specs.declared.entry.Entry.{Entry}
-use Rattle.lt_base.specs.declared.entry.Run.{Run}
-use Rattle.lt_base.specs.declared.request.Request.{Request}
+use Rattle.row_types.specs.declared.column.Column.{Column}
+use Rattle.history_types.specs.declared.entry.Entry.{Entry}
+use Rattle.history_types.specs.declared.entry.Run.{Run}
+use Rattle.history_types.specs.declared.request.Request.{Request}
 use Rattle.pieces.specs.Number.{unsigned_at, optional_long_at}
 use Rattle.history_log.specs.declared.refusal.HistoryRefusal.{HistoryRefusal}
 use Rattle.history_log.specs.Refusal.{is_memory, of_piece}

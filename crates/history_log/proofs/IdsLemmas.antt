@@ -5,7 +5,7 @@ use Rattle.std.specs.Int.RustNames.{FitsSigned}
 use Rattle.std.specs.List.{All}
 use Rattle.std.proofs.lemmas.Int.{ints}
 use Rattle.std.proofs.lemmas.List.{at_drop_more, at_drop_all}
-use Rattle.lt_base.specs.declared.entry.Run.{Run}
+use Rattle.history_types.specs.declared.entry.Run.{Run}
 use Rattle.lineage_model.specs.Ids.{ids_from, how_many, ids_of_run, ids_of}
 
 -- a run of no ids

@@ -8,10 +8,11 @@ use Rattle.std.proofs.lemmas.List.Folds.{list_any_at}
 use Rattle.std.proofs.lemmas.Result.{IfOk-weaker}
 use Rattle.std.proofs.lemmas.Slice.Eq.{bytes_eq-Decides}
 use Rattle.words.specs.Reading.{◌>>=◌, map_refusal, map_value}
-use Rattle.lt_base.specs.declared.cell.Cell.{Cell}
-use Rattle.lt_base.specs.declared.column.Column.{Column}
-use Rattle.lt_base.specs.declared.request.Request.TheVariants.{Append, Compact, Upgrade}
-use Rattle.lt_base.specs.Fits.{IsRow, FitsRequest}
+use Rattle.row_types.specs.declared.cell.Cell.{Cell}
+use Rattle.row_types.specs.declared.column.Column.{Column}
+use Rattle.history_types.specs.declared.request.Request.TheVariants.{Append, Compact, Upgrade}
+use Rattle.row_types.specs.Fits.{IsRow}
+use Rattle.history_types.specs.Fits.{FitsRequest}
 use Rattle.pieces.specs.declared.refusal.PieceRefusal.TheVariants.{Syntax}
 use Rattle.pieces.specs.Word.{one_of, gap_at, mark_at, end_at}
 use Rattle.pieces.specs.Literal.{literal_at}

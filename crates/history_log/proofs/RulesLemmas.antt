@@ -10,8 +10,8 @@ use Rattle.std.proofs.lemmas.Bool.{and_parts, true≢false, not-false}
 use Rattle.std.proofs.lemmas.Bool.Decides.{Decides-int_eq}
 use Rattle.std.proofs.lemmas.Int.{ints}
 use Rattle.std.proofs.lemmas.List.Folds.{list_all-append}
-use Rattle.lt_base.specs.declared.entry.Entry.{Entry}
-use Rattle.lt_base.specs.declared.state.State.{State}
+use Rattle.history_types.specs.declared.entry.Entry.{Entry}
+use Rattle.history_types.specs.declared.state.State.{State}
 use Rattle.lineage_model.specs.declared.rule.Rule.{Rule}
 use Rattle.lineage_model.specs.declared.rule.Rule.TheVariants as rules
 use Rattle.lineage_model.specs.Ids.{ids_of, is_rising}

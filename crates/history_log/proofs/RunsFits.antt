@@ -4,8 +4,9 @@ use Rattle.std.specs.Prelude.{int_lt, ◌^◌, ◌-◌, negsuc}
 use Rattle.std.proofs.lemmas.Bool.{and_from, false≢true}
 use Rattle.std.proofs.lemmas.Bool.Decides.{Decides-int_eq}
 use Rattle.std.proofs.lemmas.Int.{ints}
-use Rattle.lt_base.specs.declared.entry.Run.{Run}
-use Rattle.lt_base.specs.Fits.{is_long, IsRun, AreRuns}
+use Rattle.history_types.specs.declared.entry.Run.{Run}
+use Rattle.row_types.specs.Fits.{is_long}
+use Rattle.history_types.specs.Fits.{IsRun, AreRuns}
 use Rattle.history_log.specs.Runs.{goes_on}
 
 -- a number of the machine's 64 bits is one

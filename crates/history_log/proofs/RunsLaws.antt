@@ -8,8 +8,8 @@ use Rattle.std.proofs.lemmas.Bool.{false_from_ne_true}
 use Rattle.std.proofs.lemmas.Bool.Decides.{Decides-int_eq}
 use Rattle.std.proofs.lemmas.List.{length-append, length-drop}
 use Rattle.words.specs.Reading.{◌>>=◌}
-use Rattle.lt_base.specs.declared.entry.Run.{Run}
-use Rattle.lt_base.specs.Fits.{IsRun, AreRuns}
+use Rattle.history_types.specs.declared.entry.Run.{Run}
+use Rattle.history_types.specs.Fits.{IsRun, AreRuns}
 use Rattle.pieces.specs.declared.refusal.PieceRefusal.{PieceRefusal}
 use Rattle.pieces.specs.Word.{is_this, byte_at, spaces}
 use Rattle.pieces.specs.Number.{digits, begins, Signed, count_at, is_absent}

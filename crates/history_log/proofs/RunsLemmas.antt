@@ -3,7 +3,7 @@ use Rattle.std.proofs.Common.{inl, inr, ◌≡◌, ℕ, suc, ◌+◌, ◌-◌, �
 use Rattle.std.specs.Prelude.{slice_get}
 use Rattle.std.proofs.lemmas.Bool.{false≢true, cases_Bool}
 use Rattle.std.specs.Ordering.{int_eq}
-use Rattle.lt_base.specs.declared.entry.Run.{Run}
+use Rattle.history_types.specs.declared.entry.Run.{Run}
 use Rattle.pieces.specs.declared.refusal.PieceRefusal.{PieceRefusal}
 use Rattle.pieces.specs.Word.{is_this}
 use Rattle.pieces.specs.Number.{is_absent}

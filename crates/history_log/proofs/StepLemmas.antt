@@ -4,11 +4,11 @@ use Rattle.std.specs.declared.option.Option.TheVariants.{Some}
 use Rattle.std.specs.List.{All}
 use Rattle.std.proofs.lemmas.Bool.{true≢false, ne_eqb}
 use Rattle.std.proofs.lemmas.List.{nil_from_length}
-use Rattle.lt_base.specs.RowMap.{NamedRow, UnnamedRow, with_row}
-use Rattle.lt_base.specs.declared.entry.Entry.{Entry}
-use Rattle.lt_base.specs.declared.request.Request.{Request}
-use Rattle.lt_base.specs.declared.request.Request.TheVariants.{Append, Compact, Upgrade}
-use Rattle.lt_base.specs.declared.state.State.{State}
+use Rattle.row_types.specs.RowMap.{NamedRow, UnnamedRow, with_row}
+use Rattle.history_types.specs.declared.entry.Entry.{Entry}
+use Rattle.history_types.specs.declared.request.Request.{Request}
+use Rattle.history_types.specs.declared.request.Request.TheVariants.{Append, Compact, Upgrade}
+use Rattle.history_types.specs.declared.state.State.{State}
 use Rattle.lineage_model.specs.Rows.{under, with_rows}
 use Rattle.lineage_model.specs.Asked.{Asked, asked, nothing}
 use Rattle.lineage_model.specs.Step.{is_upgrade, upgraded, committed_to, appended_to, applied}

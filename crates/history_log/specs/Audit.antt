@@ -1,8 +1,8 @@
 -- What an audit answers.
 use Rattle.std.specs.Prelude.{List, Result}
 use Rattle.words.specs.Reading.{map_refusal}
-use Rattle.lt_base.specs.declared.entry.Entry.{Entry}
-use Rattle.lt_base.specs.declared.state.State.{State}
+use Rattle.history_types.specs.declared.entry.Entry.{Entry}
+use Rattle.history_types.specs.declared.state.State.{State}
 use Rattle.lineage_model.specs.History.{Fault, audited}
 use Rattle.history_log.specs.declared.refusal.HistoryRefusal.{HistoryRefusal}
 use Rattle.history_log.specs.declared.refusal.HistoryRefusal.TheVariants.{Illegal}

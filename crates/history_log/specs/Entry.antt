@@ -1,8 +1,8 @@
 -- Entries as they stand in a text: the word, whose commit it is, its sequence number, the next id, the named and the given ids, and the request.
 use Rattle.std.specs.Prelude.{ℕ, List, ◌++◌, Result, Ok, codes, decimal}
 use Rattle.words.specs.Reading.{◌>>=◌, map_refusal}
-use Rattle.lt_base.specs.declared.column.Column.{Column}
-use Rattle.lt_base.specs.declared.entry.Entry.{Entry}
+use Rattle.row_types.specs.declared.column.Column.{Column}
+use Rattle.history_types.specs.declared.entry.Entry.{Entry}
 use Rattle.pieces.specs.declared.refusal.PieceRefusal.{PieceRefusal}
 use Rattle.pieces.specs.Word.{word_at, gap_at}
 use Rattle.pieces.specs.Number.{unsigned_at, optional_long_at, optional_text}

@@ -1,8 +1,8 @@
 -- The parts of an entry's text: its numbers, its runs, and its request behind them.
 use Rattle.std.specs.Prelude.{ℕ, ℤ, List, ◌++◌, Option, Result, Ok, codes, decimal}
 use Rattle.words.specs.Reading.{◌>>=◌, map_refusal}
-use Rattle.lt_base.specs.declared.entry.Entry.{Entry}
-use Rattle.lt_base.specs.declared.entry.Run.{Run}
+use Rattle.history_types.specs.declared.entry.Entry.{Entry}
+use Rattle.history_types.specs.declared.entry.Run.{Run}
 use Rattle.pieces.specs.declared.refusal.PieceRefusal.{PieceRefusal}
 use Rattle.pieces.specs.Word.{word_at, gap_at}
 use Rattle.pieces.specs.Number.{unsigned_at, optional_long_at, optional_text}

@@ -4,7 +4,7 @@ use Rattle.std.specs.List.{flat_map}
 use Rattle.std.specs.Fmt.{signed_decimal}
 use Rattle.std.specs.Ordering.{int_eq}
 use Rattle.words.specs.Reading.{◌>>=◌}
-use Rattle.lt_base.specs.declared.entry.Run.{Run}
+use Rattle.history_types.specs.declared.entry.Run.{Run}
 use Rattle.pieces.specs.declared.refusal.PieceRefusal.{PieceRefusal}
 use Rattle.pieces.specs.declared.refusal.PieceRefusal.TheVariants.{Syntax}
 use Rattle.pieces.specs.declared.number.Passed.{Passed}

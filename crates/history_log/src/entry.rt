@@ -3,8 +3,8 @@
 ghost use Rattle.std.specs.Prelude.{◌≡◌, ◌≤◌, ◌++◌, List, length, IfOk, OnOk, Ok};
 ghost use Rattle.std.specs.String.{string_bytes};
 ghost use Rattle.words.specs.Reading.{Gives};
-ghost use Rattle.lt_base.specs.declared.column.Column.{Column as AColumn};
-ghost use Rattle.lt_base.specs.Fits.{AreRuns, FitsEntry};
+ghost use Rattle.row_types.specs.declared.column.Column.{Column as AColumn};
+ghost use Rattle.history_types.specs.Fits.{AreRuns, FitsEntry};
 ghost use Rattle.history_log.specs.Refusal.{is_memory};
 ghost use Rattle.history_log.specs.Entry.{before_gap, entry_of, entry_text};
 ghost use Rattle.history_log.specs.EntryParts.{numbers_text, ids_text, start_at, numbers_at, ids_at};
@@ -13,11 +13,12 @@ use crate::refusal::HistoryRefusal;
 use crate::request::{put_request, take_request};
 use crate::runs::{put_runs, take_runs};
 use avro_wire::Text;
-use lt_base::{Columns, Entry, Runs};
+use history_types::{Entry, Runs};
 use pieces::{
     PieceRefusal, put_optional_long, put_unsigned, take_gap, take_optional_long, take_unsigned,
     take_word,
 };
+use row_types::Columns;
 use std::alloc::{AllocError, Global};
 
 /// The entry that the text is, for a table of these columns. docs/FORMATS.md, "Entries".

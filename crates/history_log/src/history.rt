@@ -2,7 +2,7 @@
 
 ghost use Rattle.std.specs.Prelude.{◌≡◌, IfOk, Ok};
 ghost use Rattle.words.specs.Reading.{Gives, map_refusal};
-ghost use Rattle.lt_base.specs.declared.state.State.{State as AState};
+ghost use Rattle.history_types.specs.declared.state.State.{State as AState};
 ghost use Rattle.lineage_model.specs.Step.{broken_rule};
 ghost use Rattle.lineage_model.specs.History.{IsHistory, stepped, audited_from};
 ghost use Rattle.history_log.specs.Refusal.{is_memory};
@@ -12,8 +12,9 @@ use crate::opening::is_opening;
 use crate::refusal::HistoryRefusal;
 use crate::rules::broken_rule;
 use crate::step::apply;
+use history_types::{Entries, Entry, State};
 use lineage_model::Rule;
-use lt_base::{Columns, Entries, Entry, State};
+use row_types::Columns;
 use std::alloc::Global;
 
 /// The state after all entries of a history that begins with `start`; or the first entry that is no

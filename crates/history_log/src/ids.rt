@@ -5,7 +5,7 @@ ghost use Rattle.lineage_model.specs.Ids.{how_many, ids_of, ids_of_run};
 ghost use Rattle.lineage_model.specs.Step.{are_fresh};
 ghost use Rattle.history_log.specs.Ids.{rise_within, rise_behind};
 
-use lt_base::Run;
+use history_types::Run;
 use std::marker::Model;
 
 /// The ids of runs, one after the other. Contracts see the list of the ids that are left.

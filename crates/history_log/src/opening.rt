@@ -4,7 +4,8 @@ ghost use Rattle.std.specs.Prelude.{◌≡◌, pos, not, ◌&&◌, int_lt};
 ghost use Rattle.std.specs.List.{list_all};
 ghost use Rattle.lineage_model.specs.Opening.{is_between, has_right_next, has_right_ids, has_right_lasts, is_opening};
 
-use lt_base::{Cells, RowMap, State};
+use history_types::State;
+use row_types::{Cells, RowMap};
 
 /// Whether a history may begin with the state: its version is 2 or 3, and its numbers agree.
 /// docs/LINEAGE.md, "The rules of a history".

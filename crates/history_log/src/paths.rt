@@ -4,8 +4,8 @@ ghost use Rattle.std.specs.Prelude.{◌≡◌, ◌++◌, ◌∷◌, [], false, O
 ghost use Rattle.history_log.specs.Request.{is_repeated};
 
 use avro_wire::Text;
+use history_types::Paths;
 use lists::List;
-use lt_base::Paths;
 use std::alloc::{AllocError, Global};
 use std::collections::BTreeSet;
 use std::marker::Model;

@@ -4,8 +4,8 @@ ghost use Rattle.std.specs.Prelude.{◌≡◌, ◌<◌, ◌≤◌, ◌++◌, [],
 ghost use Rattle.std.specs.List.{flat_map};
 ghost use Rattle.std.specs.String.{string_bytes};
 ghost use Rattle.words.specs.Reading.{Gives};
-ghost use Rattle.lt_base.specs.declared.column.Column.{Column as AColumn};
-ghost use Rattle.lt_base.specs.Fits.{FitsRequest};
+ghost use Rattle.row_types.specs.declared.column.Column.{Column as AColumn};
+ghost use Rattle.history_types.specs.Fits.{FitsRequest};
 ghost use Rattle.pieces.specs.Word.{gap_at, mark_at};
 ghost use Rattle.history_log.specs.Refusal.{is_memory};
 ghost use Rattle.history_log.specs.Request.{or_end, rows_at, is_repeated, path_at, paths_at, paths_or_end, request_behind, request_at, request_of, rows_text, next_row_text, next_path_text, request_text};
@@ -13,10 +13,11 @@ ghost use Rattle.history_log.specs.Request.{or_end, rows_at, is_repeated, path_a
 use crate::paths::DistinctPaths;
 use crate::refusal::HistoryRefusal;
 use avro_wire::Text;
+use history_types::{Paths, Request};
 use lists::List;
-use lt_base::{CellRows, Cells, Column, Columns, Paths, Request};
 use pieces::{put_literal, take_end, take_gap, take_literal, take_mark, take_one_of};
 use row_pred::{put_cells, take_cells};
+use row_types::{CellRows, Cells, Column, Columns};
 use std::alloc::{AllocError, Global};
 
 /// The words that requests begin with.

@@ -4,8 +4,8 @@ ghost use Rattle.std.specs.Prelude.{◌≡◌, ℤ, pos, ◌+ℤ◌};
 ghost use Rattle.lineage_model.specs.Step.{is_upgrade, gives_ids, appended, is_this, breaks_version, breaks_unnamed, breaks_seq, breaks_next, breaks_named, breaks_given, breaks_fresh, breaks_asked, broken_rule};
 
 use crate::ids::{are_fresh, has_count};
+use history_types::{Entry, Request, State};
 use lineage_model::Rule;
-use lt_base::{Entry, Request, State};
 
 /// The first rule that the entry breaks in the state before it, in the order of the rules. None: it
 /// is a legal step. docs/LINEAGE.md, "The rules of a history".

@@ -5,12 +5,12 @@ ghost use Rattle.std.specs.List.{flat_map};
 ghost use Rattle.std.specs.Ordering.{int_eq};
 ghost use Rattle.std.specs.String.{string_bytes};
 ghost use Rattle.words.specs.Reading.{Gives};
-ghost use Rattle.lt_base.specs.Fits.{IsRun, AreRuns};
+ghost use Rattle.history_types.specs.Fits.{IsRun, AreRuns};
 ghost use Rattle.pieces.specs.Refusal.{is_memory as is_memory_of_piece};
 ghost use Rattle.history_log.specs.Runs.{run_text, next_run_text, runs_text, goes_on, may_grow, stop_of, stop_past, first_at, plus_at, run_at, runs_at};
 
+use history_types::{Run, Runs};
 use lists::List;
-use lt_base::{Run, Runs};
 use pieces::{
     Passed, PieceRefusal, is_absent, put_long, stands, take_byte, take_count, take_signed,
 };

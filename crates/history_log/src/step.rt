@@ -1,15 +1,16 @@
 //! The state after an entry.
 
 ghost use Rattle.std.specs.Prelude.{◌≡◌, ◌++◌, [], ℤ, pos, ◌+ℤ◌, ◌<ℤ◌, ◌^◌, map, All, Some, None, IfOk, OnOk};
-ghost use Rattle.lt_base.specs.declared.state.State.{State as AState};
+ghost use Rattle.history_types.specs.declared.state.State.{State as AState};
 ghost use Rattle.lineage_model.specs.Ids.{ids_of};
 ghost use Rattle.lineage_model.specs.Rows.{stamped, under, with_rows};
 ghost use Rattle.lineage_model.specs.Asked.{asked};
 ghost use Rattle.lineage_model.specs.Step.{appended_to, committed_to, upgraded, broken_rule, applied};
 
 use crate::ids::Ids;
+use history_types::{Entry, Request, Run, State};
 use lists::{Copied, List};
-use lt_base::{Cells, Entry, Request, RowMap, Run, State, Unnamed};
+use row_types::{Cells, RowMap, Unnamed};
 use std::alloc::{AllocError, Global};
 
 /// The state after an entry that breaks no rule. An `Err` says that memory ran out.

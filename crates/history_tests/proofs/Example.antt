@@ -1,8 +1,8 @@
 -- A small table that is upgraded, gets a row and is compacted: its steps are legal.
 use Rattle.std.proofs.Common.{◌≡◌, ℕ, ℤ, pos, [], ◌∷◌, Option, Some, None, refl}
-use Rattle.lt_base.specs.declared.request.Request.TheVariants.{Append, Compact, Upgrade}
-use Rattle.lt_base.specs.declared.entry.Entry.{Entry}
-use Rattle.lt_base.specs.declared.state.State.{State}
+use Rattle.history_types.specs.declared.request.Request.TheVariants.{Append, Compact, Upgrade}
+use Rattle.history_types.specs.declared.entry.Entry.{Entry}
+use Rattle.history_types.specs.declared.state.State.{State}
 use Rattle.lineage_model.specs.Ids.{ids_from, is_rising}
 use Rattle.lineage_model.specs.Step.{broken_rule, applied, LegalStep}
 use Rattle.lineage_model.specs.History.{IsHistory, AreLegal, state_after}

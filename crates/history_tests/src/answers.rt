@@ -2,8 +2,8 @@
 
 use crate::tables::{nine_columns, two_columns};
 use history_log::{HistoryRefusal, print_entry, print_request, read_entry, read_request};
-use lt_base::Columns;
 use row_pred::{PredRefusal, print_cells, read_cells};
+use row_types::Columns;
 use std::alloc::{AllocError, Global};
 use std::test::*;
 

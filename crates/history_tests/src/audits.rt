@@ -2,10 +2,9 @@
 
 use crate::tables::one_column;
 use history_log::{HistoryRefusal, Rule, audit};
+use history_types::{Entries, Entry, Request, Run, Runs, State};
 use lists::List;
-use lt_base::{
-    Cell, CellRows, Cells, Columns, Entries, Entry, Request, RowMap, Run, Runs, State, Unnamed,
-};
+use row_types::{Cell, CellRows, Cells, Columns, RowMap, Unnamed};
 use std::alloc::{AllocError, Global};
 use std::test::*;
 

@@ -3,8 +3,8 @@
 use crate::answers::Answer::{Misfit, NotNull, Printed, Syntax};
 use crate::answers::{Form, Line, first_wrong};
 use crate::tables::{ToldCell, cells_of, two_columns};
-use lt_base::{Cell, Columns};
 use row_pred::{print_cells, put_cell, put_cells, take_cell, take_cells};
+use row_types::{Cell, Columns};
 use std::alloc::{AllocError, Global};
 use std::test::*;
 

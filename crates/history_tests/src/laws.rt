@@ -1,11 +1,12 @@
 //! The laws of histories, each at a small table.
 
 ghost use Rattle.std.specs.Prelude.{◌≡◌, pos, [], ◌∷◌, Some, None, IfOk};
-ghost use Rattle.lt_base.specs.declared.request.Request.TheVariants.{Append, Compact, Upgrade};
+ghost use Rattle.history_types.specs.declared.request.Request.TheVariants.{Append, Compact, Upgrade};
 
+use history_types::{Entries, Entry, Request, Run, State};
 use lineage_model::laws::*;
 use lists::List;
-use lt_base::{Entries, Entry, Request, RowMap, Run, State};
+use row_types::RowMap;
 use std::alloc::{AllocError, Global};
 use std::test::*;
 

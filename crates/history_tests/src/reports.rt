@@ -3,8 +3,8 @@
 use crate::tables::{ToldCell, cells_of};
 use avro_wire::Text;
 use lists::List;
-use lt_base::{Columns, Kind, Row, RowList};
 use report::{Report, ReportRefusal, print_columns, print_report, read_report};
+use row_types::{Columns, Kind, Row, RowList};
 use std::alloc::{AllocError, Global};
 use std::test::*;
 

@@ -5,8 +5,9 @@ use crate::answers::{Form, Line, first_wrong};
 use crate::tables::{ToldCell, cells_of};
 use avro_wire::Text;
 use history_log::print_request;
+use history_types::{Paths, Request};
 use lists::List;
-use lt_base::{CellRows, Paths, Request};
+use row_types::CellRows;
 use std::alloc::{AllocError, Global};
 use std::test::*;
 

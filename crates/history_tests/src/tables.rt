@@ -2,7 +2,7 @@
 
 use avro_wire::{Bytes, Text};
 use lists::List;
-use lt_base::{Cell, Cells, Column, Columns, Kind};
+use row_types::{Cell, Cells, Column, Columns, Kind};
 use std::alloc::{AllocError, Global};
 use std::test::*;
 

@@ -1,7 +1,7 @@
 -- How an audit may end.
 use Rattle.std.proofs.Common.{◌≡◌, ℕ, true, List, length, Result, Ok, Err, sym, ap}
 use Rattle.words.specs.Reading.{◌>>=◌, map_refusal}
-use Rattle.lt_base.specs.declared.state.State.{State}
+use Rattle.history_types.specs.declared.state.State.{State}
 use Rattle.lineage_model.specs.History.{Fault, audited}
 use Rattle.report.specs.declared.stage.Report.{Report}
 use Rattle.report.specs.declared.refusal.ReportRefusal.{ReportRefusal}

@@ -4,7 +4,7 @@ use Rattle.std.specs.List.{flat_map}
 use Rattle.std.specs.Io.KnownBytes.{Appends}
 use Rattle.std.proofs.lemmas.List.{append-nil, drop_more, drop_all}
 use Rattle.hex.specs.Hex.{encode_lower, encode_with}
-use Rattle.lt_base.specs.declared.row.Row.{Row}
+use Rattle.row_types.specs.declared.row.Row.{Row}
 use Rattle.row_pred.specs.Cells.{spaced_text}
 use Rattle.row_file.specs.declared.cell.CellRef.{CellRef}
 use Rattle.row_file.specs.Cell.{lent_cell}

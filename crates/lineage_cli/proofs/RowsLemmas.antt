@@ -3,8 +3,8 @@ use Rattle.std.proofs.Common.{◌≡◌, ℕ, Bool, true, false, pos, List, Opti
 use Rattle.std.specs.Bool.{OnFalse}
 use Rattle.words.specs.Reading.{◌>>=◌, map_refusal}
 use Rattle.words.specs.Laws.{refused_so}
-use Rattle.lt_base.specs.declared.column.Column.{Column}
-use Rattle.lt_base.specs.declared.row.Row.{Row}
+use Rattle.row_types.specs.declared.column.Column.{Column}
+use Rattle.row_types.specs.declared.row.Row.{Row}
 use Rattle.row_file.specs.declared.refusal.RowRefusal.{RowRefusal}
 use Rattle.row_file.specs.Refusal.{is_memory as wants_memory}
 use Rattle.row_file.specs.Columns.{file_columns_of}

@@ -2,8 +2,8 @@
 use Rattle.std.proofs.Common.{◌≡◌, ℕ, pos, List, Option, None, Result, Ok, Err, refl, option_map}
 use Rattle.std.specs.Prelude.{IfOk}
 use Rattle.words.specs.Reading.{◌>>=◌}
-use Rattle.lt_base.specs.declared.column.Column.{Column}
-use Rattle.lt_base.specs.declared.row.Row.{Row}
+use Rattle.row_types.specs.declared.column.Column.{Column}
+use Rattle.row_types.specs.declared.row.Row.{Row}
 use Rattle.row_file.specs.declared.refusal.RowRefusal.{RowRefusal}
 use Rattle.row_file.specs.Columns.{file_columns_of}
 use Rattle.row_file.specs.File.{rows_of}

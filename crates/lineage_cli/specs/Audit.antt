@@ -1,7 +1,7 @@
 -- What an audit prints: that the history of a report is legal, with its size and what it leads to.
 use Rattle.std.specs.Prelude.{ℕ, ◌+◌, List, ◌++◌, length, Result, Ok, codes, decimal}
 use Rattle.words.specs.Reading.{◌>>=◌, map_refusal}
-use Rattle.lt_base.specs.declared.state.State.{State}
+use Rattle.history_types.specs.declared.state.State.{State}
 use Rattle.lineage_model.specs.History.{Fault, audited}
 use Rattle.pieces.specs.Number.{optional_text}
 use Rattle.report.specs.declared.refusal.ReportRefusal.{ReportRefusal}

@@ -2,9 +2,9 @@
 use Rattle.std.specs.Prelude.{ℕ, ℤ, List, ◌++◌, codes, decimal}
 use Rattle.std.specs.Fmt.{signed_decimal}
 use Rattle.hex.specs.Hex.{encode_lower}
-use Rattle.lt_base.specs.declared.which.Which.{Which}
-use Rattle.lt_base.specs.declared.which.Which.TheVariants.{Object}
-use Rattle.lt_base.specs.Which.{name_of as name_of_limit}
+use Rattle.limits.specs.declared.which.Which.{Which}
+use Rattle.limits.specs.declared.which.Which.TheVariants.{Object}
+use Rattle.limits.specs.Which.{name_of as name_of_limit}
 use Rattle.pieces.specs.Literal.{literal_text}
 use Rattle.avro_container.specs.declared.refusal.ContainerRefusal.{ContainerRefusal}
 use Rattle.avro_container.specs.declared.refusal.ContainerRefusal.TheVariants as containers

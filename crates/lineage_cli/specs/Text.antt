@@ -2,7 +2,7 @@
 use Rattle.std.specs.Prelude.{ℕ, List, ◌++◌, codes}
 use Rattle.std.specs.Fmt.{signed_decimal}
 use Rattle.std.specs.List.{flat_map}
-use Rattle.lt_base.specs.declared.row.Row.{Row}
+use Rattle.row_types.specs.declared.row.Row.{Row}
 use Rattle.pieces.specs.Number.{optional_text}
 use Rattle.row_pred.specs.Cells.{cells_text}
 

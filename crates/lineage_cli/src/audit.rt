@@ -12,11 +12,12 @@ use crate::command::Command;
 use crate::ending::Ending;
 use crate::output::write_all;
 use history_log::{HistoryRefusal, audit};
+use history_types::{Entries, State};
 use itoa::Buffer;
-use lt_base::{Columns, Entries, State};
 use lt_port::{PortError, Sink};
 use pieces::{put_optional_long, put_unsigned};
 use report::{Report, ReportRefusal, read_report};
+use row_types::Columns;
 use std::alloc::{AllocError, Global};
 
 /// Answers `audit` for the bytes of its input.

@@ -15,9 +15,9 @@ ghost use Rattle.lineage_cli.specs.Run.{answer_to, is_memory, IsOutcome};
 use crate::command::Command;
 use crate::ending::Ending;
 use crate::printing::print_rows;
-use lt_base::Columns;
 use lt_port::{PortError, Sink};
 use row_file::{CheckedRows, RowRefusal, check_file, file_columns};
+use row_types::Columns;
 use std::alloc::Global;
 
 /// Answers `rows` for the bytes of its input. The file is checked whole before a line is written.

@@ -11,7 +11,7 @@ use crate::ending::{Ending, status_of, tell};
 use crate::input::{InputRefusal, read_all};
 use crate::rows::answer_rows;
 use avro_wire::Text;
-use lt_base::{INPUT, ROWS_INPUT};
+use limits::{INPUT, ROWS_INPUT};
 use lt_port::{Sink, Source};
 use std::alloc::Global;
 

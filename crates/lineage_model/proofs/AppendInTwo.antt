@@ -1,9 +1,9 @@
 -- An append in version 2.
 use Rattle.std.proofs.Common.{◌≡◌, List, ◌++◌, map, refl, ap, ◌∙◌}
-use Rattle.lt_base.specs.declared.cell.Cell.{Cell}
-use Rattle.lt_base.specs.declared.request.Request.TheVariants.{Append}
-use Rattle.lt_base.specs.declared.entry.Entry.{Entry}
-use Rattle.lt_base.specs.declared.state.State.{State}
+use Rattle.row_types.specs.declared.cell.Cell.{Cell}
+use Rattle.history_types.specs.declared.request.Request.TheVariants.{Append}
+use Rattle.history_types.specs.declared.entry.Entry.{Entry}
+use Rattle.history_types.specs.declared.state.State.{State}
 use Rattle.lineage_model.specs.Rows.{stamped}
 use Rattle.lineage_model.specs.Step.{applied, LegalStep}
 use Rattle.lineage_model.specs.History.{IsAppend}

@@ -1,10 +1,10 @@
 -- Entries by their request, and states by their version.
 use Rattle.std.proofs.Common.{◌≡◌, ℕ, ℤ, List, Option, Some, None, sym, subst}
-use Rattle.lt_base.specs.declared.cell.Cell.{Cell}
-use Rattle.lt_base.specs.declared.request.Request.{Request}
-use Rattle.lt_base.specs.declared.request.Request.TheVariants.{Append, Compact, Upgrade}
-use Rattle.lt_base.specs.declared.entry.Entry.{Entry}
-use Rattle.lt_base.specs.declared.state.State.{State}
+use Rattle.row_types.specs.declared.cell.Cell.{Cell}
+use Rattle.history_types.specs.declared.request.Request.{Request}
+use Rattle.history_types.specs.declared.request.Request.TheVariants.{Append, Compact, Upgrade}
+use Rattle.history_types.specs.declared.entry.Entry.{Entry}
+use Rattle.history_types.specs.declared.state.State.{State}
 
 -- what holds of an entry with each request holds of each entry
 pub by_request : (P : Entry → Type 0) (entry : Entry) → ((rows : List (List Cell)) → P (record entry { request = Append rows }))

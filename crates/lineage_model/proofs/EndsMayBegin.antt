@@ -4,9 +4,9 @@ use Rattle.std.specs.Map.{keys_of, values_of}
 use Rattle.std.proofs.lemmas.Bool.{or_left}
 use Rattle.std.proofs.lemmas.Int.{ints}
 use Rattle.std.proofs.lemmas.List.Elements.{All-head, All-append}
-use Rattle.lt_base.specs.RowMap.{NamedRow}
-use Rattle.lt_base.specs.declared.entry.Entry.{Entry}
-use Rattle.lt_base.specs.declared.state.State.{State}
+use Rattle.row_types.specs.RowMap.{NamedRow}
+use Rattle.history_types.specs.declared.entry.Entry.{Entry}
+use Rattle.history_types.specs.declared.state.State.{State}
 use Rattle.lineage_model.specs.Rows.{stamped}
 use Rattle.lineage_model.specs.Opening.{is_empty, is_opening}
 use Rattle.lineage_model.specs.Step.{broken_rule, applied}

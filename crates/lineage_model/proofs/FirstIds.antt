@@ -7,7 +7,7 @@ use Rattle.std.proofs.lemmas.Int.{ints}
 use Rattle.std.proofs.lemmas.List.Elements.{All-nil, All-head, All-weaker}
 use Rattle.std.proofs.lemmas.List.Folds.{list_all-map}
 use Rattle.std.proofs.lemmas.List.Sums.{list_all-from_AllPass}
-use Rattle.lt_base.specs.RowMap.{NamedRow}
+use Rattle.row_types.specs.RowMap.{NamedRow}
 use Rattle.lineage_model.specs.Opening.{is_between, has_right_next, has_right_ids}
 use Rattle.lineage_model.specs.History.{IsBelow}
 use Rattle.lineage_model.proofs.Cases.{HasNext}

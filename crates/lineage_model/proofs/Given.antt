@@ -4,9 +4,9 @@ use Rattle.std.specs.List.{flat_map}
 use Rattle.std.specs.Map.{keys_of}
 use Rattle.std.proofs.lemmas.Int.{ints}
 use Rattle.std.proofs.lemmas.List.Elements.{All-append, All-head, All-weaker}
-use Rattle.lt_base.specs.RowMap.{IsRising}
-use Rattle.lt_base.specs.declared.entry.Entry.{Entry}
-use Rattle.lt_base.specs.declared.state.State.{State}
+use Rattle.row_types.specs.RowMap.{IsRising}
+use Rattle.history_types.specs.declared.entry.Entry.{Entry}
+use Rattle.history_types.specs.declared.state.State.{State}
 use Rattle.lineage_model.specs.Step.{applied, ids_given_by}
 use Rattle.lineage_model.specs.History.{IsBelow, IsHistory, AreLegal, state_after, ids_given}
 use Rattle.lineage_model.proofs.Distinct.{all_pairs_append, distinct_from_rising, distinct_from_sorted}

@@ -2,12 +2,12 @@
 use Rattle.std.proofs.Common.{◌≡◌, ◌≢◌, ℕ, ◌==◌, ℤ, Bool, true, false, not, length, eqb-true, ◌&&◌, List, [], AllPairs, Option, Some, None, ap, ◌∙◌, arith, if◌then◌else◌}
 use Rattle.std.specs.List.{slice_get}
 use Rattle.std.proofs.lemmas.Bool.{and_parts, not-false}
-use Rattle.lt_base.specs.RowMap.{row_at}
-use Rattle.lt_base.specs.declared.cell.Cell.{Cell}
-use Rattle.lt_base.specs.declared.request.Request.{Request}
-use Rattle.lt_base.specs.declared.request.Request.TheVariants.{Append, Compact, Upgrade}
-use Rattle.lt_base.specs.declared.entry.Entry.{Entry}
-use Rattle.lt_base.specs.declared.state.State.{State}
+use Rattle.row_types.specs.RowMap.{row_at}
+use Rattle.row_types.specs.declared.cell.Cell.{Cell}
+use Rattle.history_types.specs.declared.request.Request.{Request}
+use Rattle.history_types.specs.declared.request.Request.TheVariants.{Append, Compact, Upgrade}
+use Rattle.history_types.specs.declared.entry.Entry.{Entry}
+use Rattle.history_types.specs.declared.state.State.{State}
 use Rattle.lineage_model.specs.Ids.{ids_of}
 use Rattle.lineage_model.specs.Step.{gives_ids, broken_rule, appended, are_fresh, ids_given_by, applied, committed_to, appended_to, LegalStep}
 use Rattle.lineage_model.proofs.Cases.{by_request}

@@ -7,7 +7,7 @@ use Rattle.std.proofs.lemmas.Int.{ints}
 use Rattle.std.proofs.lemmas.List.Elements.{All-weaker}
 use Rattle.std.proofs.lemmas.List.Folds.{list_all-map}
 use Rattle.std.proofs.lemmas.List.Sums.{AllPass-from_list_all, list_all-from_AllPass}
-use Rattle.lt_base.specs.RowMap.{NamedRow, UnnamedRow}
+use Rattle.row_types.specs.RowMap.{NamedRow, UnnamedRow}
 
 -- a number is from 0 on
 abbrev pub FromZero : ℤ → Type 0

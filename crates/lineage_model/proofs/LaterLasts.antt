@@ -4,8 +4,8 @@ use Rattle.std.specs.Map.{values_of}
 use Rattle.std.proofs.lemmas.Int.{ints}
 use Rattle.std.proofs.lemmas.List.Elements.{All-nil, All-head, All-tail, All-cons, All-map, All-weaker}
 use Rattle.std.proofs.lemmas.Map.Views.{All-values-insert_entry}
-use Rattle.lt_base.specs.RowMap.{NamedRow, UnnamedRow, with_row}
-use Rattle.lt_base.specs.declared.cell.Cell.{Cell}
+use Rattle.row_types.specs.RowMap.{NamedRow, UnnamedRow, with_row}
+use Rattle.row_types.specs.declared.cell.Cell.{Cell}
 use Rattle.lineage_model.specs.Rows.{stamped, under, with_rows}
 use Rattle.lineage_model.proofs.LastChanges.{FromZero, IsLast}
 

@@ -6,9 +6,9 @@ use Rattle.std.proofs.lemmas.Bool.{and_parts, not-false, not-true}
 use Rattle.std.proofs.lemmas.Int.{ints}
 use Rattle.std.proofs.lemmas.List.{nil_from_length}
 use Rattle.std.proofs.lemmas.List.Elements.{All-weaker}
-use Rattle.lt_base.specs.declared.cell.Cell.{Cell}
-use Rattle.lt_base.specs.declared.entry.Entry.{Entry}
-use Rattle.lt_base.specs.declared.state.State.{State}
+use Rattle.row_types.specs.declared.cell.Cell.{Cell}
+use Rattle.history_types.specs.declared.entry.Entry.{Entry}
+use Rattle.history_types.specs.declared.state.State.{State}
 use Rattle.lineage_model.specs.Ids.{ids_of, is_rising}
 use Rattle.lineage_model.specs.Rows.{under}
 use Rattle.lineage_model.specs.Step.{are_fresh, ids_given_by, rows_after}

@@ -2,7 +2,7 @@
 use Rattle.std.proofs.Common.{◌≡◌, ◌==◌, ℕ, ℤ, true, ◌||◌, All, Option, Some, None, refl, sym, ◌∙◌, pos}
 use Rattle.std.specs.Map.{keys_of, values_of}
 use Rattle.std.proofs.lemmas.Bool.{and_parts, and_from}
-use Rattle.lt_base.specs.declared.state.State.{State}
+use Rattle.history_types.specs.declared.state.State.{State}
 use Rattle.lineage_model.specs.Opening.{is_empty, is_opening}
 use Rattle.lineage_model.proofs.Cases.{HasNext}
 use Rattle.lineage_model.proofs.FirstIds.{HasFirst, first_from_test, test_from_first, ids_from_test, test_from_ids}

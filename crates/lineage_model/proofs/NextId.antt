@@ -1,8 +1,8 @@
 -- The next id does not fall.
 use Rattle.std.proofs.Common.{◌≡◌, ℕ, ℤ, ◌≤ℤ◌, List, [], ◌∷◌, Option, Some, None, refl, arith}
 use Rattle.std.proofs.lemmas.Int.{ints}
-use Rattle.lt_base.specs.declared.entry.Entry.{Entry}
-use Rattle.lt_base.specs.declared.state.State.{State}
+use Rattle.history_types.specs.declared.entry.Entry.{Entry}
+use Rattle.history_types.specs.declared.state.State.{State}
 use Rattle.lineage_model.specs.Step.{applied, ids_given_by}
 use Rattle.lineage_model.specs.History.{DidNotFall, IsHistory, AreLegal, state_after}
 use Rattle.lineage_model.proofs.Cases.{HasNext}

@@ -6,7 +6,7 @@ use Rattle.std.specs.BTreeMap.{is_at}
 use Rattle.std.proofs.lemmas.Bool.Decides.{Decides-int_eq}
 use Rattle.std.proofs.lemmas.Map.Entries.{lookup_head, lookup_tail}
 use Rattle.std.proofs.lemmas.Option.{none-some, same_Some}
-use Rattle.lt_base.specs.RowMap.{NamedRow, UnnamedRow, row_at, with_row}
+use Rattle.row_types.specs.RowMap.{NamedRow, UnnamedRow, row_at, with_row}
 use Rattle.lineage_model.specs.Rows.{under, with_rows}
 use Rattle.lineage_model.proofs.Pairs.{first_differs, rest_differ}
 use Rattle.lineage_model.proofs.RowLemmas.{All-under, row_at-with_rows}

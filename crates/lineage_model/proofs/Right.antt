@@ -4,8 +4,8 @@ use Rattle.std.specs.Map.{keys_of}
 use Rattle.std.proofs.lemmas.Bool.{and_parts}
 use Rattle.std.proofs.lemmas.List.Elements.{All-nil, All-map, All-weaker}
 use Rattle.std.proofs.lemmas.List.Sums.{AllPass-from_list_all}
-use Rattle.lt_base.specs.RowMap.{NamedRow}
-use Rattle.lt_base.specs.declared.state.State.{State}
+use Rattle.row_types.specs.RowMap.{NamedRow}
+use Rattle.history_types.specs.declared.state.State.{State}
 use Rattle.lineage_model.specs.Opening.{is_between, has_right_next, has_right_ids, is_opening}
 use Rattle.lineage_model.specs.History.{IsBelow}
 use Rattle.lineage_model.proofs.Cases.{HasNext}

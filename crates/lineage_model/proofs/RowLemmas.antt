@@ -9,7 +9,7 @@ use Rattle.std.proofs.lemmas.Cmp.{int_ranked}
 use Rattle.std.proofs.lemmas.List.Elements.{All-nil, All-cons, All-head, All-tail, All-contains}
 use Rattle.std.proofs.lemmas.Map.Entries.{lookup_tail}
 use Rattle.std.proofs.lemmas.Map.Views.{All-keys-insert_entry, Contains-keys_from_lookup}
-use Rattle.lt_base.specs.RowMap.{NamedRow, UnnamedRow, row_at, with_row}
+use Rattle.row_types.specs.RowMap.{NamedRow, UnnamedRow, row_at, with_row}
 use Rattle.lineage_model.specs.Rows.{under, with_rows}
 
 -- what holds of each id of a table and of the rows that come to it holds of each id then

@@ -5,8 +5,8 @@ use Rattle.std.proofs.lemmas.Bool.{and_parts, not-true}
 use Rattle.std.proofs.lemmas.Int.{ints}
 use Rattle.std.proofs.lemmas.List.Elements.{All-weaker}
 use Rattle.std.proofs.lemmas.List.Sums.{AllPass-from_list_all}
-use Rattle.lt_base.specs.declared.entry.Entry.{Entry}
-use Rattle.lt_base.specs.declared.state.State.{State}
+use Rattle.history_types.specs.declared.entry.Entry.{Entry}
+use Rattle.history_types.specs.declared.state.State.{State}
 use Rattle.lineage_model.specs.declared.rule.Rule.{Rule}
 use Rattle.lineage_model.specs.Opening.{is_between}
 use Rattle.lineage_model.specs.Step.{broken_rule, breaks_version, breaks_unnamed, breaks_seq, breaks_next, breaks_named, breaks_given, breaks_fresh}

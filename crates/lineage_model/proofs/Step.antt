@@ -1,8 +1,8 @@
 -- What a legal step gives, and that the state after it is right.
 use Rattle.std.proofs.Common.{◌≡◌, ℤ, pos, List, [], ◌∷◌, All, Some, None, refl, true≢false}
 use Rattle.std.specs.Map.{keys_of}
-use Rattle.lt_base.specs.declared.entry.Entry.{Entry}
-use Rattle.lt_base.specs.declared.state.State.{State}
+use Rattle.history_types.specs.declared.entry.Entry.{Entry}
+use Rattle.history_types.specs.declared.state.State.{State}
 use Rattle.lineage_model.specs.Step.{broken_rule, applied, ids_given_by}
 use Rattle.lineage_model.specs.History.{IsBelow, IsHistory, AreLegal, state_after}
 use Rattle.lineage_model.proofs.Cases.{by_request, by_version}

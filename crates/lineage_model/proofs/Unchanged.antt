@@ -1,8 +1,8 @@
 -- A compaction and an upgrade change no row.
 use Rattle.std.proofs.Common.{◌≡◌, ◌==◌, Bool, true, false, not, List, [], ◌∷◌, refl, arith, if◌then◌else◌}
-use Rattle.lt_base.specs.RowMap.{UnnamedRow}
-use Rattle.lt_base.specs.declared.entry.Entry.{Entry}
-use Rattle.lt_base.specs.declared.state.State.{State}
+use Rattle.row_types.specs.RowMap.{UnnamedRow}
+use Rattle.history_types.specs.declared.entry.Entry.{Entry}
+use Rattle.history_types.specs.declared.state.State.{State}
 use Rattle.lineage_model.specs.Ids.{ids_of}
 use Rattle.lineage_model.specs.Asked.{nothing}
 use Rattle.lineage_model.specs.Opening.{is_empty}

@@ -1,9 +1,9 @@
 -- What a request asks of a table.
 use Rattle.std.specs.Prelude.{ℤ, List, [], Option, Some}
-use Rattle.lt_base.specs.declared.cell.Cell.{Cell}
-use Rattle.lt_base.specs.declared.request.Request.{Request}
-use Rattle.lt_base.specs.declared.request.Request.TheVariants.{Append, Compact, Upgrade}
-use Rattle.lt_base.specs.declared.state.State.{State}
+use Rattle.row_types.specs.declared.cell.Cell.{Cell}
+use Rattle.history_types.specs.declared.request.Request.{Request}
+use Rattle.history_types.specs.declared.request.Request.TheVariants.{Append, Compact, Upgrade}
+use Rattle.history_types.specs.declared.state.State.{State}
 
 -- the rows that a request adds, the ids whose rows get these cells, and the ids whose rows leave the table
 pub record Asked : Type 0 where

@@ -3,10 +3,10 @@ use Rattle.std.specs.Prelude.{◌≡◌, ⊤, ℕ, ◌+◌, ℤ, true, List, [],
 use Rattle.std.specs.List.{flat_map}
 use Rattle.std.specs.Map.{keys_of}
 use Rattle.words.specs.Reading.{◌>>=◌}
-use Rattle.lt_base.specs.declared.request.Request.{Request}
-use Rattle.lt_base.specs.declared.request.Request.TheVariants.{Append, Compact, Upgrade}
-use Rattle.lt_base.specs.declared.entry.Entry.{Entry}
-use Rattle.lt_base.specs.declared.state.State.{State}
+use Rattle.history_types.specs.declared.request.Request.{Request}
+use Rattle.history_types.specs.declared.request.Request.TheVariants.{Append, Compact, Upgrade}
+use Rattle.history_types.specs.declared.entry.Entry.{Entry}
+use Rattle.history_types.specs.declared.state.State.{State}
 use Rattle.lineage_model.specs.declared.rule.Rule.{Rule}
 use Rattle.lineage_model.specs.declared.rule.Rule.TheVariants as rules
 use Rattle.lineage_model.specs.Opening.{is_opening}

@@ -1,7 +1,7 @@
 -- The ids that runs stand for.
 use Rattle.std.specs.Prelude.{ℕ, zero, suc, ℤ, pos, negsuc, ◌+ℤ◌, int_lt, Bool, true, ◌&&◌, List, [], ◌∷◌}
 use Rattle.std.specs.List.{flat_map}
-use Rattle.lt_base.specs.declared.entry.Run.{Run}
+use Rattle.history_types.specs.declared.entry.Run.{Run}
 
 -- so many ids, each one above the one before it
 unfoldable pub ids_from : ℤ → ℕ → List ℤ

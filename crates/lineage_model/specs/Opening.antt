@@ -1,8 +1,8 @@
 -- Which states a history may begin with.
 use Rattle.std.specs.Prelude.{ℕ, ◌==◌, ℤ, pos, int_lt, Bool, true, false, not, ◌&&◌, ◌||◌, List, [], ◌∷◌, Option, Some, None}
 use Rattle.std.specs.List.{list_all}
-use Rattle.lt_base.specs.RowMap.{UnnamedRow, NamedRow}
-use Rattle.lt_base.specs.declared.state.State.{State}
+use Rattle.row_types.specs.RowMap.{UnnamedRow, NamedRow}
+use Rattle.history_types.specs.declared.state.State.{State}
 
 -- there is none
 abbrev pub is_empty : {X : Type 0} → List X → Bool

@@ -2,8 +2,8 @@
 use Rattle.std.specs.Prelude.{ℤ, not, List}
 use Rattle.std.specs.List.{filter, zip, fold}
 use Rattle.std.specs.Ordering.{int_eq}
-use Rattle.lt_base.specs.declared.cell.Cell.{Cell}
-use Rattle.lt_base.specs.RowMap.{UnnamedRow, NamedRow, with_row}
+use Rattle.row_types.specs.declared.cell.Cell.{Cell}
+use Rattle.row_types.specs.RowMap.{UnnamedRow, NamedRow, with_row}
 
 -- cells as a row that changed last at this sequence number
 abbrev pub stamped : ℤ → List Cell → UnnamedRow

@@ -3,11 +3,11 @@ use Rattle.std.specs.Prelude.{◌≡◌, ℕ, ◌==◌, ℤ, pos, ◌+ℤ◌, in
 use Rattle.std.specs.Option.{is_none as is_absent}
 use Rattle.std.specs.List.{list_all}
 use Rattle.std.specs.Ordering.{int_eq}
-use Rattle.lt_base.specs.RowMap.{NamedRow}
-use Rattle.lt_base.specs.declared.request.Request.{Request}
-use Rattle.lt_base.specs.declared.request.Request.TheVariants.{Append, Compact, Upgrade}
-use Rattle.lt_base.specs.declared.entry.Entry.{Entry}
-use Rattle.lt_base.specs.declared.state.State.{State}
+use Rattle.row_types.specs.RowMap.{NamedRow}
+use Rattle.history_types.specs.declared.request.Request.{Request}
+use Rattle.history_types.specs.declared.request.Request.TheVariants.{Append, Compact, Upgrade}
+use Rattle.history_types.specs.declared.entry.Entry.{Entry}
+use Rattle.history_types.specs.declared.state.State.{State}
 use Rattle.lineage_model.specs.declared.rule.Rule.{Rule}
 use Rattle.lineage_model.specs.declared.rule.Rule.TheVariants as rules
 use Rattle.lineage_model.specs.Ids.{ids_of, is_rising}

@@ -2,16 +2,16 @@
 
 ghost use Rattle.std.specs.Prelude.{◌≡◌, ◌≢◌, ℕ, ℤ, true, All, List, [], ◌++◌, length, map, Some};
 ghost use Rattle.std.specs.List.{AllPairs, slice_get};
-ghost use Rattle.lt_base.specs.RowMap.{UnnamedRow, row_at};
-ghost use Rattle.lt_base.specs.declared.cell.Cell.{Cell};
-ghost use Rattle.lt_base.specs.declared.request.Request.TheVariants.{Append};
+ghost use Rattle.row_types.specs.RowMap.{UnnamedRow, row_at};
+ghost use Rattle.row_types.specs.declared.cell.Cell.{Cell};
+ghost use Rattle.history_types.specs.declared.request.Request.TheVariants.{Append};
 ghost use Rattle.lineage_model.specs.Ids.{ids_of};
 ghost use Rattle.lineage_model.specs.Rows.{stamped};
 ghost use Rattle.lineage_model.specs.Opening.{is_opening};
 ghost use Rattle.lineage_model.specs.Step.{gives_ids, ids_given_by, LegalStep};
 ghost use Rattle.lineage_model.specs.History.{IsHistory, AreLegal, state_after, ids_given, IsBelow, DidNotFall, IsAppend, IsCompaction, IsUpgrade};
 
-use lt_base::{Entries, Entry, State};
+use history_types::{Entries, Entry, State};
 
 /// No id is given twice, and each id that was given is below the next one.
 /// Iceberg spec, "Row Lineage".

@@ -15,7 +15,7 @@ use Rattle.pieces.specs.Number.{is_digit, optional_text}
 use Rattle.pieces.specs.Literal.{escape, literal_text}
 use Rattle.pieces.specs.HexLiteral.{hex_text}
 use Rattle.pieces.proofs.NumberLaws.{all_digits, value_on, is_long_or_none}
-use Rattle.lt_base.specs.Fits.{is_long}
+use Rattle.row_types.specs.Fits.{is_long}
 
 -- ---- bytes of a line
 

@@ -4,10 +4,11 @@ use Rattle.std.specs.Fmt.{signed_decimal}
 use Rattle.std.proofs.lemmas.Bool.{lt-ltb}
 use Rattle.std.proofs.lemmas.List.{append-nil}
 use Rattle.words.specs.Reading.{map_refusal}
-use Rattle.lt_base.specs.declared.column.Column.{Column}
-use Rattle.lt_base.specs.declared.entry.Entry.{Entry}
-use Rattle.lt_base.specs.declared.row.Row.{Row}
-use Rattle.lt_base.specs.Fits.{is_long, IsRow, FitsEntry}
+use Rattle.row_types.specs.declared.column.Column.{Column}
+use Rattle.history_types.specs.declared.entry.Entry.{Entry}
+use Rattle.row_types.specs.declared.row.Row.{Row}
+use Rattle.row_types.specs.Fits.{is_long, IsRow}
+use Rattle.history_types.specs.Fits.{FitsEntry}
 use Rattle.pieces.specs.Word.{spaces, gap_at}
 use Rattle.pieces.specs.Number.{optional_text}
 use Rattle.pieces.proofs.WordLaws.{behind, word_again, gap_again, end_again, no_space_at_end}

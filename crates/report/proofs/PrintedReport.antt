@@ -6,12 +6,12 @@ use Rattle.std.proofs.lemmas.Bool.{and_parts, not-true}
 use Rattle.std.proofs.lemmas.List.Elements.{All-head, All-tail}
 use Rattle.std.proofs.lemmas.Str.{is_utf8-from_IsUtf8}
 use Rattle.words.specs.Reading.{◌>>=◌, map_refusal}
-use Rattle.lt_base.specs.declared.column.Column.{Column}
-use Rattle.lt_base.specs.declared.entry.Entry.{Entry}
-use Rattle.lt_base.specs.declared.row.Row.{Row}
-use Rattle.lt_base.specs.declared.state.State.{State}
-use Rattle.lt_base.specs.Columns.{IsColumns}
-use Rattle.lt_base.specs.Fits.{FitsEntry}
+use Rattle.row_types.specs.declared.column.Column.{Column}
+use Rattle.history_types.specs.declared.entry.Entry.{Entry}
+use Rattle.row_types.specs.declared.row.Row.{Row}
+use Rattle.history_types.specs.declared.state.State.{State}
+use Rattle.row_types.specs.Columns.{IsColumns}
+use Rattle.history_types.specs.Fits.{FitsEntry}
 use Rattle.history_log.specs.Entry.{entry_text}
 use Rattle.report.specs.declared.stage.Report.{Report}
 use Rattle.report.specs.declared.stage.Stage.{Stage}

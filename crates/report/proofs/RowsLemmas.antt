@@ -1,9 +1,9 @@
 -- A row that joins a state.
 use Rattle.std.proofs.Common.{◌≡◌, ℤ, List, Option, Some, None, Result, Ok, Err, refl, sym, ap}
 use Rattle.words.specs.Reading.{Gives}
-use Rattle.lt_base.specs.declared.row.Row.{Row}
-use Rattle.lt_base.specs.declared.state.State.{State}
-use Rattle.lt_base.specs.RowMap.{UnnamedRow, NamedRow, with_row, row_at}
+use Rattle.row_types.specs.declared.row.Row.{Row}
+use Rattle.history_types.specs.declared.state.State.{State}
+use Rattle.row_types.specs.RowMap.{UnnamedRow, NamedRow, with_row, row_at}
 use Rattle.report.specs.declared.refusal.LineRefusal.{LineRefusal}
 use Rattle.report.specs.declared.refusal.LineRefusal.TheVariants.{Wrong}
 use Rattle.report.specs.Refusal.{is_memory}

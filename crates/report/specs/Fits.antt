@@ -1,6 +1,6 @@
 -- What is read fits the columns that are read.
 use Rattle.std.specs.Prelude.{All}
-use Rattle.lt_base.specs.Fits.{FitsEntry}
+use Rattle.history_types.specs.Fits.{FitsEntry}
 use Rattle.report.specs.declared.stage.Report.{Report}
 use Rattle.report.specs.declared.stage.Stage.{Stage}
 use Rattle.report.specs.declared.stage.Stage.TheVariants.{Nothing, Schema, Body, Ended}

@@ -3,9 +3,9 @@ use Rattle.std.specs.Prelude.{ℕ, List, [], ◌∷◌, ◌++◌, slice_get, nat
 use Rattle.std.specs.List.{starts_with}
 use Rattle.std.specs.Str.{is_utf8, bytes_eq}
 use Rattle.words.specs.Reading.{◌>>=◌, map_refusal}
-use Rattle.lt_base.specs.declared.column.Column.{Column}
-use Rattle.lt_base.specs.declared.entry.Entry.{Entry}
-use Rattle.lt_base.specs.declared.state.State.{State}
+use Rattle.row_types.specs.declared.column.Column.{Column}
+use Rattle.history_types.specs.declared.entry.Entry.{Entry}
+use Rattle.history_types.specs.declared.state.State.{State}
 use Rattle.pieces.specs.Word.{is_this}
 use Rattle.history_log.specs.Entry.{entry_of}
 use Rattle.report.specs.declared.stage.Report.{Report}

@@ -4,18 +4,19 @@ use Rattle.std.specs.Fmt.{signed_decimal}
 use Rattle.std.specs.List.{flat_map, list_all}
 use Rattle.std.specs.Str.{is_utf8}
 use Rattle.words.specs.Reading.{◌>>=◌}
-use Rattle.lt_base.specs.declared.cell.Cell.{Cell}
-use Rattle.lt_base.specs.declared.cell.Cell.TheVariants.{Null, Flag, Num, Text, Bytes}
-use Rattle.lt_base.specs.declared.column.Column.{Column}
-use Rattle.lt_base.specs.declared.column.Kind.{Kind}
-use Rattle.lt_base.specs.declared.column.Kind.TheVariants as kinds
-use Rattle.lt_base.specs.declared.entry.Entry.{Entry}
-use Rattle.lt_base.specs.declared.request.Request.{Request}
-use Rattle.lt_base.specs.declared.request.Request.TheVariants.{Append, Compact, Upgrade}
-use Rattle.lt_base.specs.declared.row.Row.{Row}
-use Rattle.lt_base.specs.declared.state.State.{State}
-use Rattle.lt_base.specs.Columns.{IsColumns}
-use Rattle.lt_base.specs.Fits.{is_long, IsRow, FitsEntry}
+use Rattle.row_types.specs.declared.cell.Cell.{Cell}
+use Rattle.row_types.specs.declared.cell.Cell.TheVariants.{Null, Flag, Num, Text, Bytes}
+use Rattle.row_types.specs.declared.column.Column.{Column}
+use Rattle.row_types.specs.declared.column.Kind.{Kind}
+use Rattle.row_types.specs.declared.column.Kind.TheVariants as kinds
+use Rattle.history_types.specs.declared.entry.Entry.{Entry}
+use Rattle.history_types.specs.declared.request.Request.{Request}
+use Rattle.history_types.specs.declared.request.Request.TheVariants.{Append, Compact, Upgrade}
+use Rattle.row_types.specs.declared.row.Row.{Row}
+use Rattle.history_types.specs.declared.state.State.{State}
+use Rattle.row_types.specs.Columns.{IsColumns}
+use Rattle.row_types.specs.Fits.{is_long, IsRow}
+use Rattle.history_types.specs.Fits.{FitsEntry}
 use Rattle.pieces.specs.Number.{optional_text}
 use Rattle.pieces.specs.Literal.{literal_text}
 use Rattle.row_pred.specs.Cells.{cells_text}

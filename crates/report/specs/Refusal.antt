@@ -6,8 +6,8 @@ use Rattle.row_pred.specs.declared.refusal.PredRefusal.{PredRefusal}
 use Rattle.row_pred.specs.declared.refusal.PredRefusal.TheVariants as cells
 use Rattle.history_log.specs.declared.refusal.HistoryRefusal.{HistoryRefusal}
 use Rattle.history_log.specs.declared.refusal.HistoryRefusal.TheVariants as entries
-use Rattle.lt_base.specs.declared.columns.ColumnsRefusal.{ColumnsRefusal}
-use Rattle.lt_base.specs.declared.columns.ColumnsRefusal.TheVariants as columns
+use Rattle.row_types.specs.declared.columns.ColumnsRefusal.{ColumnsRefusal}
+use Rattle.row_types.specs.declared.columns.ColumnsRefusal.TheVariants as columns
 use Rattle.report.specs.declared.refusal.LineRefusal.{LineRefusal}
 use Rattle.report.specs.declared.refusal.LineRefusal.TheVariants.{Wrong, Memory}
 use Rattle.report.specs.declared.refusal.ReportRefusal.{ReportRefusal}

@@ -1,11 +1,11 @@
 -- The line of a row: its id, or a minus sign, its last change, and its cells.
 use Rattle.std.specs.Prelude.{ℕ, ℤ, List, [], ◌∷◌, ◌++◌, Option, Some, None, Result, Ok, Err, codes}
 use Rattle.words.specs.Reading.{◌>>=◌, map_refusal}
-use Rattle.lt_base.specs.declared.cell.Cell.{Cell}
-use Rattle.lt_base.specs.declared.column.Column.{Column}
-use Rattle.lt_base.specs.declared.row.Row.{Row}
-use Rattle.lt_base.specs.declared.state.State.{State}
-use Rattle.lt_base.specs.RowMap.{UnnamedRow, row_at, with_row}
+use Rattle.row_types.specs.declared.cell.Cell.{Cell}
+use Rattle.row_types.specs.declared.column.Column.{Column}
+use Rattle.row_types.specs.declared.row.Row.{Row}
+use Rattle.history_types.specs.declared.state.State.{State}
+use Rattle.row_types.specs.RowMap.{UnnamedRow, row_at, with_row}
 use Rattle.pieces.specs.declared.refusal.PieceRefusal.{PieceRefusal}
 use Rattle.pieces.specs.Word.{gap_at, end_at}
 use Rattle.pieces.specs.Number.{long_at, optional_long_at}

@@ -1,11 +1,11 @@
 -- The line of the columns: the word, and a column behind each space.
 use Rattle.std.specs.Prelude.{Bool, ℕ, zero, suc, ◌+◌, ◌==◌, ℤ, List, [], ◌∷◌, length, Option, Some, None, Result, Ok, Err, codes, if◌then◌else◌}
 use Rattle.words.specs.Reading.{◌>>=◌, map_refusal, map_value}
-use Rattle.lt_base.specs.declared.column.Column.{Column}
-use Rattle.lt_base.specs.declared.column.Kind.{Kind}
-use Rattle.lt_base.specs.declared.column.Kind.TheVariants as kinds
-use Rattle.lt_base.specs.Columns.{columns_of}
-use Rattle.lt_base.specs.Fits.{is_int}
+use Rattle.row_types.specs.declared.column.Column.{Column}
+use Rattle.row_types.specs.declared.column.Kind.{Kind}
+use Rattle.row_types.specs.declared.column.Kind.TheVariants as kinds
+use Rattle.row_types.specs.Columns.{columns_of}
+use Rattle.row_types.specs.Fits.{is_int}
 use Rattle.pieces.specs.declared.refusal.PieceRefusal.{PieceRefusal}
 use Rattle.pieces.specs.declared.refusal.PieceRefusal.TheVariants.{Syntax}
 use Rattle.pieces.specs.Word.{byte_at, one_of, gap_at}

@@ -1,7 +1,7 @@
 -- The line of the state at the start: its version, its sequence number and its next id.
 use Rattle.std.specs.Prelude.{ℕ, ℤ, List, [], Option, Result, Ok, Err, nat_lt, codes, if◌then◌else◌}
 use Rattle.words.specs.Reading.{◌>>=◌, map_refusal}
-use Rattle.lt_base.specs.declared.state.State.{State}
+use Rattle.history_types.specs.declared.state.State.{State}
 use Rattle.pieces.specs.declared.refusal.PieceRefusal.{PieceRefusal}
 use Rattle.pieces.specs.declared.refusal.PieceRefusal.TheVariants.{Syntax}
 use Rattle.pieces.specs.Word.{word_at, gap_at, end_at}

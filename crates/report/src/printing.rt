@@ -4,8 +4,8 @@ ghost use Rattle.std.specs.Prelude.{◌≡◌, ◌++◌, List, [], codes, decima
 ghost use Rattle.std.specs.Fmt.{signed_decimal};
 ghost use Rattle.std.specs.List.{flat_map};
 ghost use Rattle.std.specs.String.{string_bytes};
-ghost use Rattle.lt_base.specs.declared.state.State.{State as AState};
-ghost use Rattle.lt_base.specs.Columns.{IsColumns};
+ghost use Rattle.history_types.specs.declared.state.State.{State as AState};
+ghost use Rattle.row_types.specs.Columns.{IsColumns};
 ghost use Rattle.history_log.specs.Entry.{entry_text};
 ghost use Rattle.report.specs.Schema.{schema_of};
 ghost use Rattle.report.specs.Report.{report_of};
@@ -13,9 +13,10 @@ ghost use Rattle.report.specs.Printed.{kind_text, required_text, column_text, ne
 
 use avro_wire::Text;
 use history_log::print_entry;
-use lt_base::{Column, Columns, Entries, Entry, Kind, Row, RowList};
+use history_types::{Entries, Entry};
 use pieces::{put_literal, put_long, put_optional_long, put_unsigned};
 use row_pred::put_cells;
+use row_types::{Column, Columns, Kind, Row, RowList};
 use std::alloc::{AllocError, Global};
 
 /// The text of the report that tells the columns, the state at the start by its version, its

@@ -5,9 +5,9 @@ ghost use Rattle.report.specs.declared.refusal.LineRefusal.TheVariants.{Memory};
 ghost use Rattle.report.specs.Refusal.{of_piece, of_cells, of_history, of_columns};
 
 use history_log::HistoryRefusal;
-use lt_base::ColumnsRefusal;
 use pieces::PieceRefusal;
 use row_pred::PredRefusal;
+use row_types::ColumnsRefusal;
 use std::alloc::{AllocError, AllocFailed};
 
 /// Why bytes are no report.

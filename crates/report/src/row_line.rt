@@ -7,9 +7,9 @@ ghost use Rattle.report.specs.Rows.{row_numbers_of, row_cells_of, row_of};
 
 use crate::refusal::LineRefusal;
 use crate::start_line::word_and_gap;
-use lt_base::{Cells, Columns, Row};
 use pieces::{PieceRefusal, take_end, take_gap, take_long, take_optional_long};
 use row_pred::take_cells;
+use row_types::{Cells, Columns, Row};
 use std::alloc::Global;
 
 /// The row that the line tells.

@@ -8,8 +8,8 @@ ghost use Rattle.report.specs.Schema.{id_at, kind_words, kind_of as kind_of_word
 
 use crate::refusal::LineRefusal;
 use crate::start_line::word_and_gap;
-use lt_base::{Column, Columns, Kind};
 use pieces::{PieceRefusal, take_byte, take_gap, take_literal, take_long, take_one_of};
+use row_types::{Column, Columns, Kind};
 use std::alloc::Global;
 
 /// The words of the kinds. Of two that begin alike the longer one stands first.

@@ -2,7 +2,7 @@
 
 ghost use Rattle.std.specs.Prelude.{◌≡◌, IfOk};
 ghost use Rattle.words.specs.Reading.{Gives};
-ghost use Rattle.lt_base.specs.RowMap.{row_at};
+ghost use Rattle.row_types.specs.RowMap.{row_at};
 ghost use Rattle.report.specs.Refusal.{is_memory};
 ghost use Rattle.report.specs.Rows.{joined, put_at as put_row_at};
 ghost use Rattle.report.specs.Fits.{FitsReport, FitsStage};
@@ -14,9 +14,10 @@ use crate::schema_line::schema_line;
 use crate::start_line::start_line;
 use avro_wire::text_of;
 use history_log::read_entry;
+use history_types::{Entries, State};
 use lists::List;
-use lt_base::{Cells, Columns, Entries, Row, State};
 use pieces::stands;
+use row_types::{Cells, Columns, Row};
 use std::alloc::Global;
 
 /// A history as its report tells it.

@@ -4,11 +4,12 @@ ghost use Rattle.std.specs.Prelude.{◌≡◌, ◌≤◌, codes, length, IfOk};
 ghost use Rattle.report.specs.Start.{version_at, word_and_gap as behind_word, front_of, rest_of, numbers_of, start_of};
 
 use crate::refusal::LineRefusal;
+use history_types::State;
 use lists::List;
-use lt_base::{RowMap, State};
 use pieces::{
     PieceRefusal, take_end, take_gap, take_long, take_optional_long, take_unsigned, take_word,
 };
+use row_types::RowMap;
 use std::alloc::Global;
 
 /// The state that the line tells: its version, its sequence number and its next id. It has no rows.

@@ -6,10 +6,10 @@ use Rattle.std.specs.declared.option.Option.TheVariants.{None, Some}
 use Rattle.std.proofs.lemmas.Bool.{cases_Bool}
 use Rattle.std.proofs.lemmas.List.{drop_more, drop_all}
 use Rattle.avro_schema.specs.declared.schema.Field.{Field, out-Field}
-use Rattle.lt_base.specs.declared.column.Column.{Column}
-use Rattle.lt_base.specs.declared.columns.ColumnsRefusal.{ColumnsRefusal}
-use Rattle.lt_base.specs.declared.columns.ColumnsRefusal.TheVariants.{Count, Id, Name}
-use Rattle.lt_base.specs.Columns.{first_fault, has_wrong_id, has_wrong_name, columns_of}
+use Rattle.row_types.specs.declared.column.Column.{Column}
+use Rattle.row_types.specs.declared.columns.ColumnsRefusal.{ColumnsRefusal}
+use Rattle.row_types.specs.declared.columns.ColumnsRefusal.TheVariants.{Count, Id, Name}
+use Rattle.row_types.specs.Columns.{first_fault, has_wrong_id, has_wrong_name, columns_of}
 use Rattle.row_file.specs.declared.refusal.RowRefusal.{RowRefusal}
 use Rattle.row_file.specs.declared.refusal.RowRefusal.TheVariants.{Kind as WrongKind}
 use Rattle.row_file.specs.Columns.{with_field, columns_from, checked}

@@ -2,7 +2,7 @@
 use Rattle.std.proofs.Common.{◌≡◌, ℕ, ◌+◌, ◌<◌, ◌≤◌, List, [], ◌∷◌, Result, Ok, Err, refl, sym, ◌∙◌, inl, inr}
 use Rattle.std.specs.Prelude.{nat_lt}
 use Rattle.std.proofs.lemmas.Bool.{cases_Bool, lt-ltb, le-ltb, ltb-false}
-use Rattle.lt_base.specs.declared.which.Which.TheVariants.{FileRows}
+use Rattle.limits.specs.declared.which.Which.TheVariants.{FileRows}
 use Rattle.avro_container.specs.declared.container.Block.{Block}
 use Rattle.row_file.specs.declared.refusal.RowRefusal.{RowRefusal}
 use Rattle.row_file.specs.declared.refusal.RowRefusal.TheVariants.{Limit}

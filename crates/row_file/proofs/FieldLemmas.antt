@@ -4,7 +4,7 @@ use Rattle.std.specs.Prelude.{ℤ}
 use Rattle.std.specs.declared.option.Option.TheVariants.{Some, None}
 use Rattle.std.proofs.lemmas.List.{drop_more, drop_all}
 use Rattle.avro_schema.specs.declared.schema.Field.{Field, out-Field}
-use Rattle.lt_base.specs.declared.column.Column.{Column}
+use Rattle.row_types.specs.declared.column.Column.{Column}
 use Rattle.row_file.specs.declared.refusal.RowRefusal.{RowRefusal}
 use Rattle.row_file.specs.declared.refusal.RowRefusal.TheVariants.{MissingColumn}
 use Rattle.row_file.specs.Field.{is_this, find_from, find, is_missing, check_missing, check_kind, check_kinds}

@@ -4,8 +4,8 @@ use Rattle.std.specs.Prelude.{◌==◌, ℤ, pos, negsuc, Some, None, slice_get,
 use Rattle.std.proofs.lemmas.Option.{none-some}
 use Rattle.std.proofs.lemmas.Bool.{cases_Bool, false≢true, le-ltb}
 use Rattle.words.specs.Reading.{◌>>=◌, map_value}
-use Rattle.lt_base.specs.declared.cell.Cell.{Cell}
-use Rattle.lt_base.specs.declared.cell.Cell.TheVariants as cells
+use Rattle.row_types.specs.declared.cell.Cell.{Cell}
+use Rattle.row_types.specs.declared.cell.Cell.TheVariants as cells
 use Rattle.avro_wire.specs.Number.{Bounds, int}
 use Rattle.avro_schema.specs.declared.schema.Schema.{Schema, out-Schema}
 use Rattle.avro_schema.specs.declared.schema.Schema.TheOpen as types

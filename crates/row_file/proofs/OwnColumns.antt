@@ -8,9 +8,9 @@ use Rattle.std.proofs.lemmas.List.Elements.{All-nil, All-cons}
 use Rattle.std.proofs.lemmas.List.Folds.{list_any-append}
 use Rattle.words.specs.Reading.{◌>>=◌, Gives, never, map_value}
 use Rattle.words.specs.Laws.{refused_for_certain}
-use Rattle.lt_base.specs.declared.column.Column.{Column}
-use Rattle.lt_base.specs.declared.column.Kind.{Kind}
-use Rattle.lt_base.specs.Columns.{first_fault, has_id, has_wrong_id, has_wrong_name, most_columns}
+use Rattle.row_types.specs.declared.column.Column.{Column}
+use Rattle.row_types.specs.declared.column.Kind.{Kind}
+use Rattle.row_types.specs.Columns.{first_fault, has_id, has_wrong_id, has_wrong_name, most_columns}
 use Rattle.avro_schema.specs.declared.schema.Schema.{Schema, out-Schema}
 use Rattle.avro_schema.specs.declared.schema.Schema.TheOpen.{Boolean, Int, Long, Str, Raw}
 use Rattle.avro_schema.specs.declared.schema.Logical.{Logical}

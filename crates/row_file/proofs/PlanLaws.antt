@@ -7,12 +7,12 @@ use Rattle.std.proofs.lemmas.List.{append_assoc, length-set, length-replicate, l
 use Rattle.std.proofs.Math.Seq.{set-append_seam}
 use Rattle.std.proofs.lemmas.List.Elements.{All-head, All-tail}
 use Rattle.std.proofs.lemmas.Bool.Decides.{Decides-int_eq}
-use Rattle.lt_base.specs.declared.cell.Cell.{Cell}
-use Rattle.lt_base.specs.declared.column.Column.{Column}
-use Rattle.lt_base.specs.declared.column.Kind.{Kind}
-use Rattle.lt_base.specs.declared.column.Kind.TheVariants as kinds
-use Rattle.lt_base.specs.declared.row.StoredRow.{StoredRow}
-use Rattle.lt_base.specs.Columns.{IsColumns, largest_id}
+use Rattle.row_types.specs.declared.cell.Cell.{Cell}
+use Rattle.row_types.specs.declared.column.Column.{Column}
+use Rattle.row_types.specs.declared.column.Kind.{Kind}
+use Rattle.row_types.specs.declared.column.Kind.TheVariants as kinds
+use Rattle.row_types.specs.declared.row.StoredRow.{StoredRow}
+use Rattle.row_types.specs.Columns.{IsColumns, largest_id}
 use Rattle.avro_schema.specs.declared.schema.Schema.{Schema, out-Schema}
 use Rattle.avro_schema.specs.declared.schema.Field.{Field, out-Field}
 use Rattle.avro_datum.specs.declared.datum.Datum.{Datum}

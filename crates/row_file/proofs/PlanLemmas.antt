@@ -1,7 +1,7 @@
 -- The steps of columns, one after the other, as a loop plans them.
 use Rattle.std.proofs.Common.{◌≡◌, ℕ, ◌+◌, ◌<◌, ◌≤◌, List, length, get_or, drop, refl, sym, ◌∙◌}
 use Rattle.std.proofs.lemmas.List.{drop_more, drop_all}
-use Rattle.lt_base.specs.declared.column.Column.{Column}
+use Rattle.row_types.specs.declared.column.Column.{Column}
 use Rattle.avro_schema.specs.declared.schema.Field.{Field}
 use Rattle.row_file.specs.declared.plan.Step.{Step}
 use Rattle.row_file.specs.declared.plan.Target.TheVariants as targets

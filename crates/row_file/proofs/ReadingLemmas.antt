@@ -3,9 +3,9 @@ use Rattle.std.proofs.Common.{ℕ, List, length, Result, Ok, Err, sym, ◌∙◌
 use Rattle.std.specs.Prelude.{ℤ, Option, IfOk}
 use Rattle.words.specs.Reading.{Gives}
 use Rattle.words.specs.Laws.{refused_so}
-use Rattle.lt_base.specs.declared.column.Column.{Column}
-use Rattle.lt_base.specs.declared.row.Row.{Row}
-use Rattle.lt_base.specs.declared.row.StoredRow.{StoredRow}
+use Rattle.row_types.specs.declared.column.Column.{Column}
+use Rattle.row_types.specs.declared.row.Row.{Row}
+use Rattle.row_types.specs.declared.row.StoredRow.{StoredRow}
 use Rattle.row_file.specs.declared.refusal.RowRefusal.{RowRefusal}
 use Rattle.row_file.specs.Refusal.{is_memory}
 use Rattle.row_file.specs.File.{rows_of, rows_from}

@@ -6,9 +6,9 @@ use Rattle.std.specs.declared.option.Option.{Option}
 use Rattle.std.specs.declared.option.Option.TheVariants.{None, Some}
 use Rattle.std.proofs.lemmas.List.{drop_more, drop_all}
 use Rattle.words.specs.Reading.{map_value, Gives, never}
-use Rattle.lt_base.specs.declared.cell.Cell.TheVariants as cells
-use Rattle.lt_base.specs.declared.column.Column.{Column}
-use Rattle.lt_base.specs.declared.row.StoredRow.{StoredRow}
+use Rattle.row_types.specs.declared.cell.Cell.TheVariants as cells
+use Rattle.row_types.specs.declared.column.Column.{Column}
+use Rattle.row_types.specs.declared.row.StoredRow.{StoredRow}
 use Rattle.avro_schema.specs.declared.schema.Field.{Field}
 use Rattle.avro_schema.specs.declared.schema.Schema.{Schema}
 use Rattle.avro_schema.specs.declared.schema.Schema.TheVariants as schemas

@@ -1,7 +1,7 @@
 -- What is seen of the rows of a file that was checked.
 use Rattle.std.proofs.Common.{◌≡◌, ℕ, ◌+◌, List, [], ◌∷◌, length, refl, sym, ap, subst, ◌∙◌, arith}
 use Rattle.std.specs.Prelude.{ℤ, pos, ◌+ℤ◌, ◌<ℤ◌, ◌^◌, Option, IfSome, map}
-use Rattle.lt_base.specs.declared.row.StoredRow.{StoredRow}
+use Rattle.row_types.specs.declared.row.StoredRow.{StoredRow}
 use Rattle.row_file.specs.declared.row.Layout.{Layout}
 use Rattle.row_file.specs.declared.row.RowRef.{RowRef}
 use Rattle.row_file.specs.declared.checked.Rest.{Rest}

@@ -3,9 +3,9 @@ use Rattle.std.proofs.Common.{◌≡◌, ℕ, ◌+◌, ◌<◌, ◌≤◌, List,
 use Rattle.std.specs.declared.option.Option.TheVariants.{Some}
 use Rattle.std.proofs.lemmas.List.{get_or_default}
 use Rattle.std.proofs.lemmas.Option.{slice_get-get_or}
-use Rattle.lt_base.specs.declared.cell.Cell.{Cell}
-use Rattle.lt_base.specs.declared.column.Column.{Column}
-use Rattle.lt_base.specs.declared.row.StoredRow.{StoredRow}
+use Rattle.row_types.specs.declared.cell.Cell.{Cell}
+use Rattle.row_types.specs.declared.column.Column.{Column}
+use Rattle.row_types.specs.declared.row.StoredRow.{StoredRow}
 use Rattle.avro_schema.specs.declared.schema.Schema.{Schema}
 use Rattle.avro_schema.specs.declared.schema.Field.{Field}
 use Rattle.avro_datum.specs.declared.cursor.Cursor.{Cursor}

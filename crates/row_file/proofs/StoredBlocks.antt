@@ -3,8 +3,8 @@ use Rattle.std.proofs.Common.{◌≡◌, ℕ, zero, suc, ◌+◌, ◌≤◌, pos
 use Rattle.std.proofs.lemmas.Bool.{eqb-true, eq-eqb, le-ltb}
 use Rattle.std.proofs.lemmas.List.{append-nil, length-append, nil_from_length}
 use Rattle.words.specs.Reading.{◌>>=◌, map_value, repeated}
-use Rattle.lt_base.specs.declared.column.Column.{Column}
-use Rattle.lt_base.specs.declared.row.StoredRow.{StoredRow}
+use Rattle.row_types.specs.declared.column.Column.{Column}
+use Rattle.row_types.specs.declared.row.StoredRow.{StoredRow}
 use Rattle.avro_wire.specs.Blocks.{SpellsItems}
 use Rattle.avro_schema.specs.declared.schema.Schema.{Schema}
 use Rattle.avro_datum.proofs.Parts.{Stand, Took, stand_first, stand_second, took_then, took_nothing}

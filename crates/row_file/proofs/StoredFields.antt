@@ -3,9 +3,9 @@ use Rattle.std.proofs.Common.{◌≡◌, false, List, [], ◌∷◌, All, Some, 
 use Rattle.std.specs.Prelude.{ℤ, Option}
 use Rattle.std.proofs.lemmas.Bool.{not-false, not_from_true}
 use Rattle.std.proofs.lemmas.List.Elements.{All-nil, All-cons, All-head, All-tail}
-use Rattle.lt_base.specs.declared.column.Column.{Column}
-use Rattle.lt_base.specs.declared.column.Kind.{Kind}
-use Rattle.lt_base.specs.declared.column.Kind.TheVariants as kinds
+use Rattle.row_types.specs.declared.column.Column.{Column}
+use Rattle.row_types.specs.declared.column.Kind.{Kind}
+use Rattle.row_types.specs.declared.column.Kind.TheVariants as kinds
 use Rattle.avro_schema.specs.declared.schema.Field.{Field}
 use Rattle.avro_container.proofs.Steps.{bind_then, test_failed}
 use Rattle.row_file.specs.Kind.{is_allowed}

@@ -6,9 +6,9 @@ use Rattle.std.proofs.lemmas.Bool.{cases_Bool}
 use Rattle.std.proofs.lemmas.Bool.Decides.{Decides-int_eq}
 use Rattle.std.proofs.lemmas.Int.{ints}
 use Rattle.words.specs.Reading.{map_refusal}
-use Rattle.lt_base.specs.declared.column.Column.{Column}
-use Rattle.lt_base.specs.declared.row.Row.{Row}
-use Rattle.lt_base.specs.declared.row.StoredRow.{StoredRow}
+use Rattle.row_types.specs.declared.column.Column.{Column}
+use Rattle.row_types.specs.declared.row.Row.{Row}
+use Rattle.row_types.specs.declared.row.StoredRow.{StoredRow}
 use Rattle.avro_schema.specs.declared.schema.Schema.{Schema}
 use Rattle.avro_schema.specs.Meaning.{IsSchemaText}
 use Rattle.avro_schema.specs.Reading.{schema_of}

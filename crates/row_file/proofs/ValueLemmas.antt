@@ -1,8 +1,8 @@
 -- The values of rows, put together one by one.
 use Rattle.std.proofs.Common.{◌≡◌, ℕ, ◌+◌, ◌<◌, ◌≤◌, List, [], ◌∷◌, ◌++◌, length, get_or, drop, if◌then◌else◌, refl, sym, ◌∙◌, append_assoc}
 use Rattle.std.proofs.lemmas.List.{drop_more, drop_all, append-nil}
-use Rattle.lt_base.specs.declared.cell.Cell.{Cell}
-use Rattle.lt_base.specs.declared.column.Column.{Column}
+use Rattle.row_types.specs.declared.cell.Cell.{Cell}
+use Rattle.row_types.specs.declared.column.Column.{Column}
 use Rattle.avro_datum.specs.declared.datum.Datum.{Datum}
 use Rattle.row_file.specs.Writing.{cell_datum, optional_datum, cell_data}
 

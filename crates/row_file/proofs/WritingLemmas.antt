@@ -6,10 +6,10 @@ use Rattle.std.specs.declared.alloc.AllocError.{AllocError}
 use Rattle.std.proofs.lemmas.Bool.{eqb-true}
 use Rattle.std.proofs.lemmas.List.{nil_from_length, append-nil, take-append-drop, take_min, drop_min}
 use Rattle.std.proofs.lemmas.List.Elements.{All-nil, All-append, All-drop}
-use Rattle.lt_base.specs.declared.column.Column.{Column}
-use Rattle.lt_base.specs.declared.row.StoredRow.{StoredRow}
-use Rattle.lt_base.specs.Columns.{IsColumns}
-use Rattle.lt_base.specs.Fits.{fits_row}
+use Rattle.row_types.specs.declared.column.Column.{Column}
+use Rattle.row_types.specs.declared.row.StoredRow.{StoredRow}
+use Rattle.row_types.specs.Columns.{IsColumns}
+use Rattle.row_types.specs.Fits.{fits_row}
 use Rattle.avro_schema.specs.declared.schema.Schema.{Schema}
 use Rattle.avro_datum.specs.declared.datum.Datum.{Datum}
 use Rattle.avro_datum.specs.Fits.{fits}

@@ -5,10 +5,10 @@ use Rattle.std.specs.List.{All, flat_map}
 use Rattle.std.proofs.lemmas.Int.{ints}
 use Rattle.std.proofs.lemmas.List.{length-map, length-drop, take-append-drop}
 use Rattle.std.proofs.lemmas.List.Elements.{All-nil, All-cons, All-head, All-tail, All-take, All-drop}
-use Rattle.lt_base.specs.declared.column.Column.{Column}
-use Rattle.lt_base.specs.declared.row.StoredRow.{StoredRow}
-use Rattle.lt_base.specs.Columns.{IsColumns}
-use Rattle.lt_base.specs.Fits.{fits_row}
+use Rattle.row_types.specs.declared.column.Column.{Column}
+use Rattle.row_types.specs.declared.row.StoredRow.{StoredRow}
+use Rattle.row_types.specs.Columns.{IsColumns}
+use Rattle.row_types.specs.Fits.{fits_row}
 use Rattle.avro_wire.specs.Blocks.{SpellsItems}
 use Rattle.avro_datum.specs.Spelling.{IsEncoding}
 use Rattle.avro_datum.specs.Canonical.{canonical}

@@ -1,13 +1,13 @@
 -- The value of a row that is written is one of the file's schema.
 use Rattle.std.proofs.Common.{◌≡◌, ℕ, ◌+◌, Bool, true, false, not, List, [], ◌∷◌, ◌++◌, map, Some, refl, sym, ap, ap₂, ◌∙◌}
 use Rattle.std.specs.Prelude.{ℤ, pos, Option, None, IfSome, ◌&&◌, nat_lt, codes, if◌then◌else◌}
-use Rattle.lt_base.specs.declared.cell.Cell.{Cell}
-use Rattle.lt_base.specs.declared.cell.Cell.TheVariants as cells
-use Rattle.lt_base.specs.declared.column.Column.{Column}
-use Rattle.lt_base.specs.declared.column.Kind.{Kind}
-use Rattle.lt_base.specs.declared.column.Kind.TheVariants as kinds
-use Rattle.lt_base.specs.declared.row.StoredRow.{StoredRow}
-use Rattle.lt_base.specs.Fits.{is_long, has_flags, has_number, has_texts, has_bytes, fits as cell_fits, fits_row}
+use Rattle.row_types.specs.declared.cell.Cell.{Cell}
+use Rattle.row_types.specs.declared.cell.Cell.TheVariants as cells
+use Rattle.row_types.specs.declared.column.Column.{Column}
+use Rattle.row_types.specs.declared.column.Kind.{Kind}
+use Rattle.row_types.specs.declared.column.Kind.TheVariants as kinds
+use Rattle.row_types.specs.declared.row.StoredRow.{StoredRow}
+use Rattle.row_types.specs.Fits.{is_long, has_flags, has_number, has_texts, has_bytes, fits as cell_fits, fits_row}
 use Rattle.avro_schema.specs.declared.schema.Schema.{Schema, roll-Schema}
 use Rattle.avro_schema.specs.declared.schema.Schema.TheOpen as layers
 use Rattle.avro_schema.specs.declared.schema.Schema.TheOpen.{Schema-F}

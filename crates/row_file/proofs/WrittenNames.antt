@@ -14,8 +14,8 @@ use Rattle.std.proofs.lemmas.Slice.Eq.{bytes_eq-Decides}
 use Rattle.std.proofs.lemmas.List.Elements.{All-nil, All-cons, All-head, All-tail, All-append, All-map, All-weaker, All-from_get_or}
 use Rattle.std.proofs.lemmas.List.Folds.{list_any_none}
 use Rattle.std.proofs.lemmas.List.Sums.{AllPass-from_list_all, list_all-from_AllPass}
-use Rattle.lt_base.specs.declared.column.Column.{Column}
-use Rattle.lt_base.specs.Columns.{IsColumns}
+use Rattle.row_types.specs.declared.column.Column.{Column}
+use Rattle.row_types.specs.Columns.{IsColumns}
 use Rattle.avro_schema.specs.Printable.{begins_name, goes_on_name, is_avro_name, are_distinct}
 use Rattle.row_file.specs.Writing.{row_id_name, last_updated_name, is_plain_name, are_plain_names, field_name}
 

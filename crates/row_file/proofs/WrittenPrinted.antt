@@ -4,10 +4,10 @@ use Rattle.std.specs.Prelude.{◌&&◌, codes, if◌then◌else◌}
 use Rattle.std.specs.List.{list_all, flat_map, sum}
 use Rattle.std.proofs.lemmas.List.{length-map, length-append}
 use Rattle.std.proofs.lemmas.List.Sums.{sum_by-cons}
-use Rattle.lt_base.specs.declared.column.Column.{Column}
-use Rattle.lt_base.specs.declared.column.Kind.{Kind}
-use Rattle.lt_base.specs.declared.column.Kind.TheVariants as kinds
-use Rattle.lt_base.specs.Columns.{IsColumns}
+use Rattle.row_types.specs.declared.column.Column.{Column}
+use Rattle.row_types.specs.declared.column.Kind.{Kind}
+use Rattle.row_types.specs.declared.column.Kind.TheVariants as kinds
+use Rattle.row_types.specs.Columns.{IsColumns}
 use Rattle.avro_schema.specs.declared.schema.Schema.{Schema, roll-Schema}
 use Rattle.avro_schema.specs.declared.schema.Schema.TheOpen as layers
 use Rattle.avro_schema.specs.declared.schema.Schema.TheOpen.{Schema-F, Field-F}

@@ -4,12 +4,12 @@ use Rattle.std.specs.Prelude.{◌≢◌, ℤ, pos, ◌≤ℤ◌, Option, None, �
 use Rattle.std.specs.List.{All, AllPairs}
 use Rattle.std.proofs.lemmas.Int.{ints}
 use Rattle.std.proofs.lemmas.List.Elements.{All-head, All-tail}
-use Rattle.lt_base.specs.declared.cell.Cell.{Cell}
-use Rattle.lt_base.specs.declared.cell.Cell.TheVariants as cells
-use Rattle.lt_base.specs.declared.column.Column.{Column}
-use Rattle.lt_base.specs.declared.row.StoredRow.{StoredRow}
-use Rattle.lt_base.specs.Columns.{IsColumns}
-use Rattle.lt_base.specs.Fits.{fits as cell_fits, fits_row}
+use Rattle.row_types.specs.declared.cell.Cell.{Cell}
+use Rattle.row_types.specs.declared.cell.Cell.TheVariants as cells
+use Rattle.row_types.specs.declared.column.Column.{Column}
+use Rattle.row_types.specs.declared.row.StoredRow.{StoredRow}
+use Rattle.row_types.specs.Columns.{IsColumns}
+use Rattle.row_types.specs.Fits.{fits as cell_fits, fits_row}
 use Rattle.avro_schema.specs.declared.schema.Field.{Field, out-Field}
 use Rattle.avro_datum.specs.declared.datum.Datum.{Datum, out-Datum, roll-Datum, out-roll-Datum}
 use Rattle.avro_datum.specs.declared.datum.Datum.TheOpen as layers

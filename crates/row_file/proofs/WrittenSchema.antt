@@ -7,10 +7,10 @@ use Rattle.std.proofs.lemmas.Bool.{cases_Bool}
 use Rattle.std.proofs.lemmas.Bool.Decides.{Decides-int_eq}
 use Rattle.std.proofs.lemmas.Int.{ints}
 use Rattle.std.proofs.lemmas.List.Elements.{All-nil, All-cons, All-head, All-tail}
-use Rattle.lt_base.specs.declared.column.Column.{Column}
-use Rattle.lt_base.specs.declared.column.Kind.{Kind}
-use Rattle.lt_base.specs.declared.column.Kind.TheVariants as kinds
-use Rattle.lt_base.specs.Columns.{IsColumns}
+use Rattle.row_types.specs.declared.column.Column.{Column}
+use Rattle.row_types.specs.declared.column.Kind.{Kind}
+use Rattle.row_types.specs.declared.column.Kind.TheVariants as kinds
+use Rattle.row_types.specs.Columns.{IsColumns}
 use Rattle.avro_schema.specs.declared.schema.Schema.{Schema, out-Schema, roll-Schema, out-roll-Schema}
 use Rattle.avro_schema.specs.declared.schema.Schema.TheOpen as layers
 use Rattle.avro_schema.specs.declared.schema.Schema.TheVariants as schemas

@@ -2,8 +2,8 @@
 -- Avro 1.11, "Primitive Types", "Unions"; Iceberg spec, "Appendix A: Format-specific Requirements", "Avro".
 use Rattle.std.specs.Prelude.{ℕ, ◌==◌, List, [], ◌∷◌, Option, Some, None, Result, Ok, slice_get, if◌then◌else◌}
 use Rattle.words.specs.Reading.{◌>>=◌, map_value}
-use Rattle.lt_base.specs.declared.cell.Cell.{Cell}
-use Rattle.lt_base.specs.declared.cell.Cell.TheVariants as cells
+use Rattle.row_types.specs.declared.cell.Cell.{Cell}
+use Rattle.row_types.specs.declared.cell.Cell.TheVariants as cells
 use Rattle.avro_wire.specs.Number.{long, int}
 use Rattle.avro_schema.specs.declared.schema.Schema.{Schema, out-Schema}
 use Rattle.avro_schema.specs.declared.schema.Schema.TheOpen as types

@@ -1,8 +1,8 @@
 -- The rows of a file that were checked, one after the other.
 use Rattle.std.specs.Prelude.{◌≡◌, ℕ, ◌+◌, ◌≤◌, ◌^◌, ℤ, pos, ◌+ℤ◌, ◌<ℤ◌, true, List, [], ◌++◌, length, map, Option, Result, is_ok, IfSome}
 use Rattle.words.specs.Reading.{map_value, repeated, value_or}
-use Rattle.lt_base.specs.declared.row.Row.{Row}
-use Rattle.lt_base.specs.declared.row.StoredRow.{StoredRow}
+use Rattle.row_types.specs.declared.row.Row.{Row}
+use Rattle.row_types.specs.declared.row.StoredRow.{StoredRow}
 use Rattle.row_file.specs.declared.refusal.RowRefusal.{RowRefusal}
 use Rattle.row_file.specs.declared.row.RowRef.{RowRef}
 use Rattle.row_file.specs.declared.row.Layout.{Layout}

@@ -2,8 +2,8 @@
 -- Each is a part of rows_of (specs/File.antt), which one call checks or reads.
 use Rattle.std.specs.Prelude.{◌≡◌, ◌≤◌, ◌^◌, ℤ, pos, ◌+ℤ◌, ◌<ℤ◌, true, List, [], length, Option, Result, Ok, is_ok, IfSome}
 use Rattle.words.specs.Reading.{◌>>=◌, map_value, value_or}
-use Rattle.lt_base.specs.declared.column.Column.{Column}
-use Rattle.lt_base.specs.declared.row.Row.{Row}
+use Rattle.row_types.specs.declared.column.Column.{Column}
+use Rattle.row_types.specs.declared.row.Row.{Row}
 use Rattle.avro_schema.specs.declared.schema.Schema.{Schema}
 use Rattle.avro_container.specs.declared.container.Block.{Block}
 use Rattle.row_file.specs.declared.refusal.RowRefusal.{RowRefusal}

@@ -2,9 +2,9 @@
 -- Iceberg spec, "Appendix A: Format-specific Requirements", "Avro"; "Reserved Field IDs".
 use Rattle.std.specs.Prelude.{ℕ, ℤ, pos, int_lt, Bool, not, List, [], ◌∷◌, ◌++◌, length, Option, Some, None, Result, Ok, Err, nat_lt, ◌||◌, if◌then◌else◌}
 use Rattle.words.specs.Reading.{◌>>=◌, map_value}
-use Rattle.lt_base.specs.declared.column.Column.{Column}
-use Rattle.lt_base.specs.declared.column.Kind.{Kind}
-use Rattle.lt_base.specs.Columns.{first_fault, has_wrong_id, has_wrong_name, most_columns}
+use Rattle.row_types.specs.declared.column.Column.{Column}
+use Rattle.row_types.specs.declared.column.Kind.{Kind}
+use Rattle.row_types.specs.Columns.{first_fault, has_wrong_id, has_wrong_name, most_columns}
 use Rattle.avro_schema.specs.declared.schema.Field.{Field, out-Field}
 use Rattle.avro_schema.specs.declared.schema.Schema.{out-Schema}
 use Rattle.row_file.specs.declared.refusal.RowRefusal.{RowRefusal}

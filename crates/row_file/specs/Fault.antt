@@ -1,6 +1,6 @@
 -- The id that a fault of columns tells.
 use Rattle.std.specs.Prelude.{ℤ, pos, Option, Some, None}
-use Rattle.lt_base.specs.declared.column.Column.{Column}
+use Rattle.row_types.specs.declared.column.Column.{Column}
 
 -- the column's id; 0 where there is none
 abbrev pub id_of : Option Column → ℤ

@@ -3,10 +3,10 @@
 use Rattle.std.specs.Prelude.{ℕ, ◌+◌, ◌-◌, ◌^◌, ◌==◌, ℤ, pos, negsuc, ◌+ℤ◌, int_lt, List, [], ◌∷◌, ◌++◌, length, Option, Some, None, Result, Ok, Err, nat_lt, if◌then◌else◌}
 use Rattle.std.specs.Ordering.{int_eq}
 use Rattle.words.specs.Reading.{◌>>=◌, map_refusal, map_value, repeated}
-use Rattle.lt_base.specs.declared.column.Column.{Column}
-use Rattle.lt_base.specs.declared.row.Row.{Row}
-use Rattle.lt_base.specs.declared.row.StoredRow.{StoredRow}
-use Rattle.lt_base.specs.declared.which.Which.TheVariants.{FileRows}
+use Rattle.row_types.specs.declared.column.Column.{Column}
+use Rattle.row_types.specs.declared.row.Row.{Row}
+use Rattle.row_types.specs.declared.row.StoredRow.{StoredRow}
+use Rattle.limits.specs.declared.which.Which.TheVariants.{FileRows}
 use Rattle.avro_schema.specs.declared.schema.Schema.{Schema}
 use Rattle.avro_schema.specs.Reading.{schema_of}
 use Rattle.avro_datum.specs.Reading.{datum_at}

@@ -1,7 +1,7 @@
 -- Which Avro types hold the cells of a column. Iceberg spec, "Appendix A: Format-specific Requirements", "Avro".
 use Rattle.std.specs.Prelude.{Bool, true, false, List, [], ◌∷◌, Option, Some, None}
-use Rattle.lt_base.specs.declared.column.Kind.{Kind}
-use Rattle.lt_base.specs.declared.column.Kind.TheVariants as kinds
+use Rattle.row_types.specs.declared.column.Kind.{Kind}
+use Rattle.row_types.specs.declared.column.Kind.TheVariants as kinds
 use Rattle.row_file.specs.declared.kind.Primitive.{Primitive}
 use Rattle.row_file.specs.declared.kind.Primitive.TheVariants as primitives
 use Rattle.avro_schema.specs.declared.schema.Schema.{Schema, out-Schema}

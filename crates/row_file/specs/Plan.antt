@@ -1,9 +1,9 @@
 -- Which cell of a row each field of a file fills. Iceberg spec, "Column Projection".
 use Rattle.std.specs.Prelude.{◌≡◌, ℕ, ◌<◌, List, [], ◌∷◌, ◌++◌, length, set, get_or, slice_get, Some, Result}
 use Rattle.words.specs.Reading.{map_value}
-use Rattle.lt_base.specs.declared.cell.Cell.{Cell}
-use Rattle.lt_base.specs.declared.column.Column.{Column}
-use Rattle.lt_base.specs.declared.row.StoredRow.{StoredRow}
+use Rattle.row_types.specs.declared.cell.Cell.{Cell}
+use Rattle.row_types.specs.declared.column.Column.{Column}
+use Rattle.row_types.specs.declared.row.StoredRow.{StoredRow}
 use Rattle.avro_schema.specs.declared.schema.Field.{Field, out-Field}
 use Rattle.avro_schema.specs.declared.schema.Schema.{Schema}
 use Rattle.avro_datum.specs.declared.cursor.Cursor.{Cursor}

@@ -1,6 +1,6 @@
 -- Refusals of the parts of a data file, as those of the file.
 use Rattle.std.specs.Prelude.{Bool, true, false}
-use Rattle.lt_base.specs.declared.which.Which.TheVariants.{Object}
+use Rattle.limits.specs.declared.which.Which.TheVariants.{Object}
 use Rattle.avro_container.specs.declared.refusal.ContainerRefusal.{ContainerRefusal}
 use Rattle.avro_container.specs.declared.refusal.ContainerRefusal.TheVariants as containers
 use Rattle.avro_schema.specs.declared.refusal.SchemaRefusal.{SchemaRefusal}

@@ -1,11 +1,11 @@
 -- Which rows a data file stores, whatever reads it: the promise of a reader of rows.
 -- Avro 1.11, "Object Container Files"; Iceberg spec, "Column Projection", "Row Lineage".
 use Rattle.std.specs.Prelude.{◌≡◌, ℕ, ◌≤◌, ◌^◌, ◌-◌, ℤ, pos, ◌+ℤ◌, ◌≤ℤ◌, true, false, List, [], ◌∷◌, ◌++◌, length, All, Option, Some, None, IfSome}
-use Rattle.lt_base.specs.declared.cell.Cell.{Cell}
-use Rattle.lt_base.specs.declared.column.Column.{Column}
-use Rattle.lt_base.specs.declared.column.Kind.TheVariants as kinds
-use Rattle.lt_base.specs.declared.row.Row.{Row}
-use Rattle.lt_base.specs.declared.row.StoredRow.{StoredRow}
+use Rattle.row_types.specs.declared.cell.Cell.{Cell}
+use Rattle.row_types.specs.declared.column.Column.{Column}
+use Rattle.row_types.specs.declared.column.Kind.TheVariants as kinds
+use Rattle.row_types.specs.declared.row.Row.{Row}
+use Rattle.row_types.specs.declared.row.StoredRow.{StoredRow}
 use Rattle.avro_wire.specs.Blocks.{SpellsItems}
 use Rattle.avro_schema.specs.declared.schema.Schema.{Schema}
 use Rattle.avro_schema.specs.declared.schema.Field.{Field}

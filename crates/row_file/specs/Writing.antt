@@ -4,13 +4,13 @@ use Rattle.std.specs.Prelude.{ℕ, zero, suc, ℤ, pos, Bool, true, false, not, 
 use Rattle.std.specs.Fmt.{signed_decimal}
 use Rattle.std.specs.List.{flat_map, list_all}
 use Rattle.std.specs.Str.{bytes_eq}
-use Rattle.lt_base.specs.declared.cell.Cell.{Cell}
-use Rattle.lt_base.specs.declared.cell.Cell.TheVariants as cells
-use Rattle.lt_base.specs.declared.column.Column.{Column}
-use Rattle.lt_base.specs.declared.column.Kind.{Kind}
-use Rattle.lt_base.specs.declared.column.Kind.TheVariants as kinds
-use Rattle.lt_base.specs.declared.row.StoredRow.{StoredRow}
-use Rattle.lt_base.specs.declared.which.Which.TheVariants.{FileRows, Object}
+use Rattle.row_types.specs.declared.cell.Cell.{Cell}
+use Rattle.row_types.specs.declared.cell.Cell.TheVariants as cells
+use Rattle.row_types.specs.declared.column.Column.{Column}
+use Rattle.row_types.specs.declared.column.Kind.{Kind}
+use Rattle.row_types.specs.declared.column.Kind.TheVariants as kinds
+use Rattle.row_types.specs.declared.row.StoredRow.{StoredRow}
+use Rattle.limits.specs.declared.which.Which.TheVariants.{FileRows, Object}
 use Rattle.avro_schema.specs.declared.schema.Schema.{Schema}
 use Rattle.avro_schema.specs.declared.schema.Schema.TheVariants as schemas
 use Rattle.avro_schema.specs.declared.schema.Field.{Field, roll-Field}

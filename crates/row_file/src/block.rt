@@ -10,7 +10,7 @@ ghost use Rattle.row_file.specs.File.{rows_told as rows_in_count};
 use crate::refusal::RowRefusal;
 use crate::row::{Layout, RowRef, take_row};
 use avro_container::Walk;
-use lt_base::{FILE_ROWS, Which};
+use limits::{FILE_ROWS, Which};
 
 /// Whether the blocks that are left say together that they have no more rows than a file may have.
 pub fn check_counts(walk: &mut Walk<'_>) -> Result<(), RowRefusal>

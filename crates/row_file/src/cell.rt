@@ -5,7 +5,7 @@ ghost use Rattle.row_file.specs.Cell.{lent_cell};
 ghost use Rattle.row_file.specs.Row.{is_null as null_cell, number_of};
 
 use avro_wire::{Bytes, Text};
-use lt_base::Cell;
+use row_types::Cell;
 use std::alloc::{AllocError, Global};
 
 /// What stands in one column of a row: a `Cell` whose text or bytes are lent from the file.

@@ -5,7 +5,7 @@ ghost use Rattle.std.specs.Bool.{OnTrue, OnFalse};
 ghost use Rattle.words.specs.Reading.{Gives};
 ghost use Rattle.row_file.specs.Refusal.{is_memory};
 ghost use Rattle.row_file.specs.Cell.{lent_cell};
-ghost use Rattle.lt_base.specs.declared.row.StoredRow.{StoredRow as AStoredRow};
+ghost use Rattle.row_types.specs.declared.row.StoredRow.{StoredRow as AStoredRow};
 ghost use Rattle.row_file.specs.Field.{fields_of};
 ghost use Rattle.row_file.specs.Plan.{IsPlan};
 ghost use Rattle.row_file.specs.File.{check_counts, rows_of, rows_from};
@@ -23,7 +23,7 @@ use crate::refusal::RowRefusal;
 use crate::row::{Layout, RowRef, take_row};
 use avro_container::Walk;
 use avro_schema::Schema;
-use lt_base::Columns;
+use row_types::Columns;
 use std::alloc::Global;
 use std::marker::Model;
 

@@ -15,7 +15,7 @@ use crate::refusal::RowRefusal;
 use crate::row::{Layout, RowRef, nulls};
 use avro_container::Walk;
 use avro_schema::Schema;
-use lt_base::Columns;
+use row_types::Columns;
 use std::alloc::{AllocError, Global};
 
 /// Checks what comes before the rows of the file, and returns how they are read for these columns.

@@ -3,7 +3,7 @@
 ghost use Rattle.std.specs.Prelude.{◌≡◌, ◌≤◌, [], length, All, IfOk};
 ghost use Rattle.words.specs.Reading.{Gives, never};
 ghost use Rattle.avro_schema.specs.declared.schema.Field.{out-Field};
-ghost use Rattle.lt_base.specs.Columns.{first_fault, has_name, has_wrong_name as wrong_name};
+ghost use Rattle.row_types.specs.Columns.{first_fault, has_name, has_wrong_name as wrong_name};
 ghost use Rattle.row_file.specs.Refusal.{is_memory};
 ghost use Rattle.row_file.specs.Kind.{nullable};
 ghost use Rattle.row_file.specs.Field.{find, fields_of};
@@ -19,7 +19,7 @@ use crate::refusal::RowRefusal;
 use avro_container::Walk;
 use avro_schema::{Field, Schema};
 use lists::Copied;
-use lt_base::{Column, Columns, ColumnsRefusal};
+use row_types::{Column, Columns, ColumnsRefusal};
 use std::alloc::Global;
 
 /// The first id that is the standard's own. Iceberg spec, "Reserved Field IDs".

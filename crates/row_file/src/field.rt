@@ -7,7 +7,7 @@ ghost use Rattle.row_file.specs.Field.{fields_of, is_this, find, is_missing, is_
 use crate::kind::is_allowed;
 use crate::refusal::RowRefusal;
 use avro_schema::{Field, Schema};
-use lt_base::{Column, Kind};
+use row_types::{Column, Kind};
 
 /// The id of the column of row ids. Iceberg spec, "Reserved Field IDs".
 pub const ROW_ID_FIELD: i32 = 2_147_483_540;

@@ -2,7 +2,7 @@
 
 ghost use Rattle.std.specs.Prelude.{◌≡◌, ◌++◌, true, if◌then◌else◌, IfOk, OnOk, map};
 ghost use Rattle.std.specs.List.{list_all};
-ghost use Rattle.lt_base.specs.declared.column.Kind.TheVariants.{Long};
+ghost use Rattle.row_types.specs.declared.column.Kind.TheVariants.{Long};
 ghost use Rattle.avro_schema.specs.Printable.{begins_name as begins, goes_on_name as goes_on, is_avro_name as avro_name};
 ghost use Rattle.row_file.specs.Writing.{written_type as type_of, optional_type as type_beside_null, field_of as field_with, field_name as name_of, column_field as field_of_column, is_plain_name as plain_name, are_plain_names as plain_names, lineage_fields, row_id_name, last_updated_name, file_schema as schema_of_file};
 
@@ -10,7 +10,7 @@ use crate::field::{LAST_UPDATED_FIELD, ROW_ID_FIELD};
 use avro_schema::{Field, Logical, Schema};
 use avro_wire::Text;
 use lists::{Copied, List};
-use lt_base::{Column, Kind};
+use row_types::{Column, Kind};
 use std::alloc::{AllocError, Global};
 
 /// The name of the field of row ids. Iceberg spec, "Reserved Field IDs".

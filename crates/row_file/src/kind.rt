@@ -6,7 +6,7 @@ ghost use Rattle.avro_schema.specs.declared.schema.Schema.{out-Schema};
 ghost use Rattle.row_file.specs.Kind.{nullable, beside_null, is_null, primitive_of, is_read_from, holds, is_allowed, int_kind, long_kind, kind_of};
 
 use avro_schema::{Logical, Schema};
-use lt_base::Kind;
+use row_types::Kind;
 
 /// A primitive type of cells. Avro spec, "Primitive Types".
 #[derive(Clone, Copy, PartialEq, Eq)]

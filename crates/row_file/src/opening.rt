@@ -10,7 +10,7 @@ ghost use Rattle.row_file.specs.File.{schema_in, opened};
 use crate::refusal::RowRefusal;
 use avro_container::{ContainerRefusal, Meta, Walk, bound_to, open_walk};
 use avro_schema::{Schema, SchemaRefusal, read_schema};
-use lt_base::Which;
+use limits::Which;
 use std::alloc::Global;
 
 /// The file's blocks, to be lent from the first one on, and its schema. The whole framing is

@@ -6,7 +6,7 @@ ghost use Rattle.row_file.specs.declared.refusal.RowRefusal.TheVariants.{Memory}
 use avro_container::ContainerRefusal;
 use avro_datum::DatumRefusal;
 use avro_schema::SchemaRefusal;
-use lt_base::Which;
+use limits::Which;
 use std::alloc::{AllocError, AllocFailed};
 
 /// Why the rows of a data file can't be read or written: the first cause in the order of the

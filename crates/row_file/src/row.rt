@@ -1,7 +1,7 @@
 //! One row, lent from the bytes of its file.
 
 ghost use Rattle.std.specs.Prelude.{◌≡◌, ◌≤◌, [], ◌∷◌, length, map, replicate, IfOk, None};
-ghost use Rattle.lt_base.specs.declared.cell.Cell.TheVariants.{Null};
+ghost use Rattle.row_types.specs.declared.cell.Cell.TheVariants.{Null};
 ghost use Rattle.words.specs.Reading.{Gives, never};
 ghost use Rattle.avro_datum.specs.Readers.{readers_of};
 ghost use Rattle.avro_datum.specs.Reading.{fields_at, datum_at};
@@ -19,7 +19,7 @@ use crate::plan::{Step, Target};
 use crate::refusal::RowRefusal;
 use avro_datum::{Cursor, DatumRefusal, skip};
 use avro_schema::{Field, Schema};
-use lt_base::Column;
+use row_types::Column;
 use std::alloc::{AllocError, Global};
 
 /// A row as a data file holds it, lent from the bytes of the file.

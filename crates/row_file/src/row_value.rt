@@ -6,7 +6,7 @@ ghost use Rattle.row_file.specs.Written.{IsLong, HasLongs};
 
 use avro_datum::Datum;
 use lists::{Copied, List};
-use lt_base::{Cell, Column, StoredRow};
+use row_types::{Cell, Column, StoredRow};
 use sqlite_items::Boxed;
 use std::alloc::{AllocError, Global};
 

@@ -2,8 +2,8 @@
 
 ghost use Rattle.std.specs.Prelude.{◌≡◌, ◌∷◌, ◌++◌, [], true, All, codes, length, map, Ok, IfOk, OnOk};
 ghost use Rattle.words.specs.Reading.{Gives, never};
-ghost use Rattle.lt_base.specs.Columns.{IsColumns};
-ghost use Rattle.lt_base.specs.Fits.{fits_row};
+ghost use Rattle.row_types.specs.Columns.{IsColumns};
+ghost use Rattle.row_types.specs.Fits.{fits_row};
 ghost use Rattle.avro_schema.specs.Printing.{schema_text};
 ghost use Rattle.avro_schema.specs.Printable.{IsPrintable};
 ghost use Rattle.avro_schema.specs.Reading.{schema_of};
@@ -21,7 +21,8 @@ use avro_container::{Block, Blocks, Container, Meta, write};
 use avro_datum::encode;
 use avro_schema::{Schema, print_schema};
 use avro_wire::{Bytes, Text};
-use lt_base::{Column, Columns, FILE_ROWS, OBJECT, StoredRow, StoredRows, Which};
+use limits::{FILE_ROWS, OBJECT, Which};
+use row_types::{Column, Columns, StoredRow, StoredRows};
 use sqlite_items::Items;
 use std::alloc::{AllocError, Global};
 

@@ -3,9 +3,9 @@ use Rattle.std.proofs.Common.{◌≡◌, ℕ, ◌+◌, true, List, [], ◌∷◌
 use Rattle.std.specs.List.{flat_map, list_all}
 use Rattle.std.proofs.lemmas.Bool.{and_parts}
 use Rattle.std.proofs.lemmas.List.{append-nil}
-use Rattle.lt_base.specs.declared.cell.Cell.{Cell}
-use Rattle.lt_base.specs.declared.column.Column.{Column}
-use Rattle.lt_base.specs.Fits.{fits, fits_row, has_real_bytes, IsRow}
+use Rattle.row_types.specs.declared.cell.Cell.{Cell}
+use Rattle.row_types.specs.declared.column.Column.{Column}
+use Rattle.row_types.specs.Fits.{fits, fits_row, has_real_bytes, IsRow}
 use Rattle.pieces.proofs.WordLaws.{behind, gap_again, end_again}
 use Rattle.pieces.specs.Word.{spaces}
 use Rattle.row_pred.specs.Cell.{cell_text}

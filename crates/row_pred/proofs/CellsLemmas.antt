@@ -6,8 +6,8 @@ use Rattle.words.specs.Reading.{◌>>=◌}
 use Rattle.words.specs.Laws.{refused_so}
 use Rattle.pieces.specs.declared.refusal.PieceRefusal.{PieceRefusal}
 use Rattle.pieces.specs.Word.{end_at}
-use Rattle.lt_base.specs.declared.cell.Cell.{Cell}
-use Rattle.lt_base.specs.declared.column.Column.{Column}
+use Rattle.row_types.specs.declared.cell.Cell.{Cell}
+use Rattle.row_types.specs.declared.column.Column.{Column}
 use Rattle.row_pred.specs.declared.refusal.PredRefusal.{PredRefusal}
 use Rattle.row_pred.specs.Refusal.{is_memory, of_piece}
 use Rattle.row_pred.specs.Cell.{cell_at}

@@ -7,10 +7,10 @@ use Rattle.std.proofs.lemmas.Bool.{and_from}
 use Rattle.std.proofs.lemmas.List.{append-nil}
 use Rattle.std.proofs.lemmas.Result.{IfOk-weaker}
 use Rattle.words.specs.Reading.{◌>>=◌, map_refusal}
-use Rattle.lt_base.specs.declared.cell.Cell.{Cell}
-use Rattle.lt_base.specs.declared.cell.Cell.TheVariants.{Null, Flag, Num, Text, Bytes}
-use Rattle.lt_base.specs.declared.column.Column.{Column}
-use Rattle.lt_base.specs.Fits.{fits, fits_row, has_real_bytes, IsRow}
+use Rattle.row_types.specs.declared.cell.Cell.{Cell}
+use Rattle.row_types.specs.declared.cell.Cell.TheVariants.{Null, Flag, Num, Text, Bytes}
+use Rattle.row_types.specs.declared.column.Column.{Column}
+use Rattle.row_types.specs.Fits.{fits, fits_row, has_real_bytes, IsRow}
 use Rattle.pieces.specs.Word.{is_this, one_of}
 use Rattle.pieces.specs.Number.{any_number_at}
 use Rattle.pieces.specs.Literal.{literal_at}

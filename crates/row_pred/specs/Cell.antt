@@ -3,10 +3,10 @@ use Rattle.std.specs.Prelude.{ℕ, zero, suc, ◌==◌, Bool, true, false, ◌||
 use Rattle.std.specs.Fmt.{signed_decimal}
 use Rattle.std.specs.Option.{option_map}
 use Rattle.words.specs.Reading.{◌>>=◌, map_refusal, map_value}
-use Rattle.lt_base.specs.declared.cell.Cell.{Cell}
-use Rattle.lt_base.specs.declared.cell.Cell.TheVariants.{Null, Flag, Num, Text, Bytes}
-use Rattle.lt_base.specs.declared.column.Column.{Column}
-use Rattle.lt_base.specs.Fits.{fits}
+use Rattle.row_types.specs.declared.cell.Cell.{Cell}
+use Rattle.row_types.specs.declared.cell.Cell.TheVariants.{Null, Flag, Num, Text, Bytes}
+use Rattle.row_types.specs.declared.column.Column.{Column}
+use Rattle.row_types.specs.Fits.{fits}
 use Rattle.pieces.specs.declared.refusal.PieceRefusal.{PieceRefusal}
 use Rattle.pieces.specs.Word.{is_this, one_of}
 use Rattle.pieces.specs.Number.{is_digit, any_number_at}

@@ -2,8 +2,8 @@
 use Rattle.std.specs.Prelude.{ℕ, List, [], ◌∷◌, ◌++◌, Result, Ok, codes}
 use Rattle.std.specs.List.{flat_map}
 use Rattle.words.specs.Reading.{◌>>=◌, map_refusal}
-use Rattle.lt_base.specs.declared.cell.Cell.{Cell}
-use Rattle.lt_base.specs.declared.column.Column.{Column}
+use Rattle.row_types.specs.declared.cell.Cell.{Cell}
+use Rattle.row_types.specs.declared.column.Column.{Column}
 use Rattle.pieces.specs.Word.{gap_at, end_at}
 use Rattle.row_pred.specs.declared.refusal.PredRefusal.{PredRefusal}
 use Rattle.row_pred.specs.Refusal.{of_piece}

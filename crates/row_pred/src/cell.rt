@@ -4,7 +4,7 @@ ghost use Rattle.std.specs.Prelude.{◌≡◌, ◌≤◌, ◌++◌, length, slic
 ghost use Rattle.std.specs.String.{string_bytes};
 ghost use Rattle.std.specs.Option.{option_map};
 ghost use Rattle.words.specs.Reading.{Gives, map_value};
-ghost use Rattle.lt_base.specs.Fits.{fits as fits_in, has_number as kind_has_number};
+ghost use Rattle.row_types.specs.Fits.{fits as fits_in, has_number as kind_has_number};
 ghost use Rattle.pieces.specs.Refusal.{is_memory as is_memory_of_piece};
 ghost use Rattle.pieces.specs.Word.{one_of};
 ghost use Rattle.pieces.specs.Number.{any_number_at};
@@ -16,11 +16,11 @@ ghost use Rattle.row_pred.specs.Cell.{begins_number as begins, any_cell_at, fitt
 ghost use Rattle.row_pred.specs.Cell.{cell_at};
 
 use crate::refusal::PredRefusal;
-use lt_base::{Cell, Column, Kind};
 use pieces::{
     PieceRefusal, put_hex, put_literal, put_long, stands, take_any_number, take_hex, take_literal,
     take_one_of,
 };
+use row_types::{Cell, Column, Kind};
 use std::alloc::{AllocError, Global};
 
 /// The words of cells, and none else.

@@ -4,8 +4,8 @@ ghost use Rattle.std.specs.Prelude.{◌≡◌, ◌≤◌, ◌++◌, List, length
 ghost use Rattle.std.specs.List.{flat_map};
 ghost use Rattle.std.specs.String.{string_bytes};
 ghost use Rattle.words.specs.Reading.{Gives};
-ghost use Rattle.lt_base.specs.declared.column.Column.{Column as AColumn};
-ghost use Rattle.lt_base.specs.Fits.{IsRow};
+ghost use Rattle.row_types.specs.declared.column.Column.{Column as AColumn};
+ghost use Rattle.row_types.specs.Fits.{IsRow};
 ghost use Rattle.row_pred.specs.Refusal.{is_memory};
 ghost use Rattle.row_pred.specs.Cells.{spaced_text, cells_text};
 ghost use Rattle.row_pred.specs.Cells.{next_at, cells_at, cells_of};
@@ -14,8 +14,8 @@ use crate::cell::{put_cell, take_cell};
 use crate::refusal::PredRefusal;
 use avro_wire::Text;
 use lists::List;
-use lt_base::{Cell, Cells, Column, Columns};
 use pieces::{take_end, take_gap};
+use row_types::{Cell, Cells, Column, Columns};
 use std::alloc::{AllocError, Global};
 
 /// The row that the text is: a cell for each column, in their order. docs/FORMATS.md, "Rows".

@@ -1,5 +1,5 @@
 use Rattle.std.proofs.Common.{◌≡◌, true, All, take}
-use Rattle.lt_base.specs.Fits.{fits_row}
+use Rattle.row_types.specs.Fits.{fits_row}
 use Rattle.data_file_tests.proofs.writing.are_rows.Given as goal
 
 abbrev pub invariant-loop-row : goal.invariant-loop-row

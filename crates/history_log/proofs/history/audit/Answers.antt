@@ -1,6 +1,6 @@
 use Rattle.std.proofs.Common.{Result, subst}
 use Rattle.words.specs.Reading.{Gives}
-use Rattle.lt_base.specs.declared.state.State.{State}
+use Rattle.history_types.specs.declared.state.State.{State}
 use Rattle.history_log.specs.declared.refusal.HistoryRefusal.{HistoryRefusal}
 use Rattle.history_log.specs.Refusal.{is_memory}
 use Rattle.history_log.proofs.HistoryLemmas.{history_only, answers_found}

@@ -1,6 +1,6 @@
 use Rattle.std.proofs.Common.{sym}
 use Rattle.std.proofs.lemmas.Result.{err_from_is_err_and}
-use Rattle.lt_base.specs.Fits.{FitsRequest}
+use Rattle.history_types.specs.Fits.{FitsRequest}
 use Rattle.pieces.proofs.ReadLaws.{if_given}
 use Rattle.history_log.specs.Refusal.{is_memory}
 use Rattle.history_log.specs.Request.{request_at}

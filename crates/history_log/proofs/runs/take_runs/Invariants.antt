@@ -1,5 +1,5 @@
 use Rattle.std.proofs.Common.{◌≤◌, ◌-◌, length}
-use Rattle.lt_base.specs.Fits.{AreRuns}
+use Rattle.history_types.specs.Fits.{AreRuns}
 use Rattle.history_log.specs.Runs.{runs_at}
 use Rattle.history_log.proofs.RunsLemmas.{RunsFrom}
 use Rattle.history_log.proofs.runs.take_runs.Given as goal

@@ -1,7 +1,7 @@
 use Rattle.std.proofs.Common.{◌≡◌, ◌++◌, take}
 use Rattle.std.specs.List.{flat_map}
 use Rattle.std.specs.String.{string_bytes}
-use Rattle.lt_base.specs.declared.entry.Entry.{Entry}
+use Rattle.history_types.specs.declared.entry.Entry.{Entry}
 use Rattle.history_log.specs.Entry.{entry_text}
 use Rattle.report.specs.Printed.{lined}
 use Rattle.report.proofs.printing.put_entries.Given as goal

@@ -1,7 +1,7 @@
 use Rattle.std.proofs.Common.{◌≡◌, ◌++◌, take}
 use Rattle.std.specs.List.{flat_map}
 use Rattle.std.specs.String.{string_bytes}
-use Rattle.lt_base.specs.declared.row.Row.{Row}
+use Rattle.row_types.specs.declared.row.Row.{Row}
 use Rattle.report.specs.Printed.{lined, row_text}
 use Rattle.report.proofs.printing.put_rows.Given as goal
 

@@ -1,6 +1,6 @@
 use Rattle.std.proofs.Common.{◌≡◌, ◌-◌, ◌≤◌, List, [], length}
 use Rattle.words.specs.Reading.{repeated}
-use Rattle.lt_base.specs.declared.row.StoredRow.{StoredRow}
+use Rattle.row_types.specs.declared.row.StoredRow.{StoredRow}
 use Rattle.row_file.specs.File.{next_row}
 use Rattle.row_file.proofs.block.check_rows.Given as goal
 

@@ -1,5 +1,5 @@
 use Rattle.std.proofs.Common.{◌≡◌, [], take, drop}
-use Rattle.lt_base.specs.Columns.{first_fault, has_wrong_name}
+use Rattle.row_types.specs.Columns.{first_fault, has_wrong_name}
 use Rattle.row_file.proofs.columns.id_of_wrong_name.Given as goal
 
 abbrev pub invariant-loop-place : goal.invariant-loop-place

@@ -1,8 +1,8 @@
 use Rattle.std.proofs.Common.{ℕ, List, arith, sym}
 use Rattle.std.proofs.lemmas.Result.{err_from_is_err_and}
 use Rattle.words.specs.Laws.{refused_so, refused_for_certain}
-use Rattle.lt_base.specs.declared.cell.Cell.{Cell}
-use Rattle.lt_base.specs.Fits.{IsRow}
+use Rattle.row_types.specs.declared.cell.Cell.{Cell}
+use Rattle.row_types.specs.Fits.{IsRow}
 use Rattle.pieces.proofs.ReadLaws.{of_read}
 use Rattle.row_pred.specs.Cells.{cells_at}
 use Rattle.row_pred.specs.Refusal.{is_memory}

@@ -1,6 +1,0 @@
-use Rattle.std.proofs.Common.{◌∙◌}
-use Rattle.lt_base.proofs.ColumnsLemmas.{not_refused}
-use Rattle.lt_base.proofs.columns.Columns.from_list.Goals as goal
-
-pub returns-clause-only : goal.returns-clause-only
-returns-clause-only c = λ right. c.check.ensures.exact ∙ not_refused c.args.list.items right

@@ -1,6 +1,0 @@
-use Rattle.std.proofs.Common.{◌≡◌, ◌++◌}
-use Rattle.lt_base.specs.RowMap.{IsRising}
-use Rattle.lt_base.proofs.row_map.RowMapCopied.copy.Given as goal
-
-abbrev pub invariant-loop-id : goal.invariant-loop-id
-invariant-loop-id l = record { so_far : l.rows.entries ++ l.id-iterator ≡ l.self; rising : IsRising l.self }

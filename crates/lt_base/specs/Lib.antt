@@ -1,4 +1,0 @@
-pub mod Which
-pub mod RowMap
-pub mod Columns
-pub mod Fits

@@ -1,0 +1,3 @@
+pub mod RowMap
+pub mod Columns
+pub mod Fits

@@ -1,0 +1,20 @@
+//! The plain types of a table's columns, cells and rows.
+//!
+//! | Module | What it has |
+//! |---|---|
+//! | `column`, `columns` | a column, and the columns of a table |
+//! | `cell`, `row` | a cell, and rows |
+//! | `row_map` | rows by their ids |
+#![tactic(auto)]
+
+mod cell;
+mod column;
+mod columns;
+mod row;
+mod row_map;
+
+pub use cell::{Cell, Cells};
+pub use column::{Column, Kind};
+pub use columns::{Columns, ColumnsRefusal};
+pub use row::{CellRows, Row, RowList, StoredRow, StoredRows, Unnamed};
+pub use row_map::RowMap;
