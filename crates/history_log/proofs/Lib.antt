@@ -4,7 +4,6 @@ mod BehindLemmas
 mod RulesLemmas
 mod StepLemmas
 mod HistoryLemmas
-pub mod PathsLemmas
 pub mod RequestSteps
 pub mod RequestLaws
 mod RunsLemmas

@@ -5,7 +5,6 @@
 //! |---|---|
 //! | `refusal` | why a text or a history is refused |
 //! | `runs` | runs of ids in a text |
-//! | `paths` | distinct paths |
 //! | `request`, `entry` | requests and entries in a text |
 //! | `ids` | the ids of runs, one by one |
 //! | `opening` | the test of the state that a history begins with |
@@ -18,7 +17,6 @@ mod entry;
 mod history;
 mod ids;
 mod opening;
-mod paths;
 mod refusal;
 mod request;
 mod rules;

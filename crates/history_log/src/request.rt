@@ -10,11 +10,10 @@ ghost use Rattle.pieces.specs.Word.{gap_at, mark_at};
 ghost use Rattle.history_log.specs.Refusal.{is_memory};
 ghost use Rattle.history_log.specs.Request.{or_end, rows_at, is_repeated, path_at, paths_at, paths_or_end, request_behind, request_at, request_of, rows_text, next_row_text, next_path_text, request_text};
 
-use crate::paths::DistinctPaths;
 use crate::refusal::HistoryRefusal;
 use avro_wire::Text;
 use history_types::{Paths, Request};
-use lists::List;
+use lists::{Distinct, List};
 use pieces::{put_literal, take_end, take_gap, take_literal, take_mark, take_one_of};
 use row_pred::{put_cells, take_cells};
 use row_types::{CellRows, Cells, Column, Columns};
@@ -188,7 +187,7 @@ fn take_paths(alloc: Global, text: &str, place: usize) -> Result<Paths, HistoryR
     requires { place ≤ length text.now }
     ensures exact { Gives is_memory (λ paths. paths) result (paths_at text.now place) }
 {
-    let mut paths = DistinctPaths::new(alloc);
+    let mut paths = Distinct::new(alloc);
     let mut at = place;
     'paths: loop {
         let (path, after) = take_path(alloc, text, at, &paths)?;
@@ -205,7 +204,7 @@ fn take_path(
     alloc: Global,
     text: &str,
     place: usize,
-    before: &DistinctPaths,
+    before: &Distinct<Text>,
 ) -> Result<(Text, usize), HistoryRefusal>
     requires { place ≤ length text.now }
     ensures exact { Gives is_memory (λ read. read) result (path_at text.now before.now place) }

@@ -19,7 +19,7 @@ pub returns-in_default : goal.returns-in_default
 returns-in_default c =
     let end = sym c.in_ok-next.ensures.exact ∙ ap Ok c.in_default.is in
     let whole = paths_done c.args.text.now c.args.place c.paths.paths c.in_ok-path.path c.paths.at c.in_ok-path.after c.paths.invariant.so_far c.paths.invariant.within c.in_ok-path.ensures.exact end in
-    record { exact = whole ∙ ap Ok (sym c.in_ok-push.ensures.ok ∙ sym c.into_list.ensures) }
+    record { exact = whole ∙ ap Ok (sym c.in_ok-push.ensures.ok ∙ sym c.into_list.ensures.value) }
 
 pub paths-preserved : goal.paths-preserved
 paths-preserved c =
