@@ -2,7 +2,6 @@ pub mod SeenLaws
 pub mod NameLaws
 pub mod MemberLaws
 pub mod ItemLaws
-pub mod FieldLaws
 pub mod PartLaws
 pub mod TextLaws
 mod Puts

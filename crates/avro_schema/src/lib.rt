@@ -10,7 +10,7 @@
 //! | `member` | the members of a JSON object |
 //! | `primitive` | primitive types, and what their numbers stand for |
 //! | `definition` | enums, fixed types, and the name of any definition |
-//! | `fields` | the fields of a record, with distinct names |
+//! | `fields` | fields by their names |
 //! | `reading` | the schema of a text |
 //! | `printing` | the text of a schema |
 #![tactic(auto)]

@@ -16,7 +16,6 @@ ghost use Rattle.avro_schema.specs.Refusal as refusals;
 ghost use Rattle.words.specs.Reading.{Gives};
 
 use crate::definition::{begin_record, enum_of, fixed_of, whole_record};
-use crate::fields::DistinctFields;
 use crate::member::{Members, id_at, is_text, list_at, needed, text_at};
 use crate::name::{full_name, namespace_of};
 use crate::primitive::{logical_of, primitive_of};
@@ -24,7 +23,7 @@ use crate::refusal::{SchemaRefusal, form, under, under_place};
 use crate::schema::{Branches, Field, Fields, Name, Schema};
 use crate::seen::Seen;
 use avro_wire::Text;
-use lists::List;
+use lists::{Distinct, List};
 use serde_json::Value;
 use sqlite_items::Boxed;
 use std::alloc::Global;
@@ -94,7 +93,7 @@ fn word_of(
 fn field_name(
     alloc: Global,
     members: &Members,
-    before: &DistinctFields,
+    before: &Distinct<Field>,
 ) -> Result<Name, SchemaRefusal>
     ensures exact { Gives is_memory (λ name. name) result
         (field_name_at before.now (members_view members.now.entries)) }
@@ -131,7 +130,7 @@ fn piece_of(
 fn field_of(
     alloc: Global,
     value: &Value,
-    before: &DistinctFields,
+    before: &Distinct<Field>,
     scope: &str,
     room: usize,
     seen: &mut Seen,
@@ -162,7 +161,7 @@ fn fields_of(
     ensures exact { Gives is_memory (λ fields. (fields, seen.new)) result
         (spec.fields_at (schema_below room scope.now) 1 [] seen.old (map view values.now)) }
 {
-    let mut fields = DistinctFields::new(alloc);
+    let mut fields = Distinct::new(alloc);
     let mut place = 1;
     for value in values {
         let field = under_place(

@@ -55,7 +55,7 @@ fields_of-loop-value-preserved t c =
 pub fields_of-returns : goal.fields_of-returns
 fields_of-returns t c =
     let l = c.loop-value in
-    record { exact = rw c.into_list.ensures (fields_end (schema_below c.args.room c.args.scope.now) l.place l.fields l.seen c.args.values.now l.value-index _ c.loop-value-test.false l.invariant.so_far) }
+    record { exact = rw c.into_list.ensures.value (fields_end (schema_below c.args.room c.args.scope.now) l.place l.fields l.seen c.args.values.now l.value-index _ c.loop-value-test.false l.invariant.so_far) }
 
 pub layer_of-returns-in-Array : goal.layer_of-returns-in-Array
 layer_of-returns-in-Array t c =
