@@ -36,7 +36,14 @@ pub struct Container {
 pub fn bound_to<'a>(meta: &'a Meta, key: &str) -> Option<&'a [u8]>
     ensures { option_copied result ≡ value_of meta.now key.now }
 {
-    for pair in meta.as_slice() {
+    bound_in(meta.as_slice(), key)
+}
+
+/// What the key is bound to among the pairs. `None`: no pair has the key.
+pub fn bound_in<'a>(pairs: &'a [(Text, Bytes)], key: &str) -> Option<&'a [u8]>
+    ensures { option_copied result ≡ value_of pairs.now key.now }
+{
+    for pair in pairs {
         if pair.0.as_str() == key {
             return Some(pair.1.as_slice());
         }

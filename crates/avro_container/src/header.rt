@@ -5,7 +5,7 @@ ghost use Rattle.words.specs.Reading.{Gives, never};
 ghost use Rattle.avro_container.specs.Refusal.{is_memory, header_refusal as refusal_in_header};
 ghost use Rattle.avro_container.specs.Header.{magic_at, map_number_at, item_at, key_at, pair_at, pairs_at, counted_at, sized_at, map_block_at, map_at, most_pairs, checked, part_at, header_at};
 
-use crate::pairs::Pairs;
+use crate::pairs::{Pairs, has_pair, push_pair, value_of};
 use crate::refusal::ContainerRefusal;
 use avro_wire::{Bytes, WireRefusal, take_bytes, take_long, text_of};
 use std::alloc::Global;
@@ -208,13 +208,13 @@ fn take_pair(
             place: place as u64,
         });
     };
-    if pairs.has(key) {
+    if has_pair(pairs, key) {
         return Err(ContainerRefusal::Header {
             place: place as u64,
         });
     }
     let (start, after) = take_item(input, end)?;
-    pairs.push(alloc, key, &input[start..after])?;
+    push_pair(alloc, pairs, key, &input[start..after])?;
     Ok(after)
 }
 
@@ -260,12 +260,12 @@ fn take_counted(
 fn check(alloc: Global, pairs: &Pairs, place: usize) -> Result<(), ContainerRefusal>
     ensures { Gives is_memory (λ _. (pairs.now, place)) result (checked (pairs.now, place)) }
 {
-    if !pairs.has("avro.schema") {
+    if !has_pair(pairs, "avro.schema") {
         return Err(ContainerRefusal::Header {
             place: place as u64,
         });
     }
-    match pairs.get("avro.codec") {
+    match value_of(pairs, "avro.codec") {
         None => Ok(()),
         Some(name) if name == b"null".as_slice() => Ok(()),
         Some(name) => Err(ContainerRefusal::Codec {

@@ -9,6 +9,7 @@ ghost use Rattle.avro_container.specs.Container.{container_at};
 use crate::block::{SYNC_BYTES, take_frame};
 use crate::container::Meta;
 use crate::header::{take_header, take_part};
+use crate::pairs::into_meta;
 use crate::refusal::ContainerRefusal;
 use std::alloc::Global;
 use std::marker::Model;
@@ -121,7 +122,7 @@ pub fn open_walk(alloc: Global, input: &[u8]) -> Result<Walk<'_>, ContainerRefus
     check_blocks(&sync, input, first)?;
     Ok(Walk {
         input,
-        meta: pairs.into_meta(),
+        meta: into_meta(pairs),
         sync,
         first,
         place: first,
