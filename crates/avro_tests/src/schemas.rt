@@ -285,16 +285,21 @@ fn prints(alloc: Global, schema: &Schema, printed: &str) -> Result<bool, AllocEr
     Ok(print_schema(alloc, schema)?.as_slice() == printed.as_bytes())
 }
 
-/// Whether the schema is printed so, and a copy of it.
+/// Whether a copy of the schema is printed so.
 fn prints_copied(alloc: Global, schema: &Schema, printed: &str) -> Result<bool, AllocError> {
     let copy = schema.copy(alloc)?;
-    Ok(prints(alloc, schema, printed)? && prints(alloc, &copy, printed)?)
+    prints(alloc, &copy, printed)
+}
+
+/// Whether the schema is printed so, and a copy of it.
+fn prints_both(alloc: Global, schema: &Schema, printed: &str) -> Result<bool, AllocError> {
+    Ok(prints(alloc, schema, printed)? && prints_copied(alloc, schema, printed)?)
 }
 
 /// Whether the text is a schema, and is printed so.
 fn is_printed(alloc: Global, text: &str, printed: &str) -> Result<bool, AllocError> {
     match read_schema(alloc, text.as_bytes()) {
-        Ok(schema) => prints_copied(alloc, &schema, printed),
+        Ok(schema) => prints_both(alloc, &schema, printed),
         Err(_) => Ok(false),
     }
 }
