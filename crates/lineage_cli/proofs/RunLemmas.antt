@@ -5,7 +5,9 @@ use Rattle.std.proofs.lemmas.Bool.{le-ltb, lt-ltb}
 use Rattle.std.specs.Io.KnownBytes.{Keeps}
 use Rattle.lineage_cli.specs.declared.command.Command.{Command}
 use Rattle.lineage_cli.specs.declared.ending.Ending.{Ending}
-use Rattle.lineage_cli.specs.declared.ending.Ending.TheVariants.{Usage, InputFault, InputLimit, Input, Table, Illegal, OutFault, Memory}
+use Rattle.lineage_cli.specs.declared.ending.Ending.TheVariants.{Usage, InputFault, InputLimit, OutFault, Memory}
+use Rattle.lineage_cli.specs.Class.{Class}
+use Rattle.lineage_cli.specs.Ending.{class_of}
 use Rattle.lineage_cli.specs.Input.{most_input}
 use Rattle.lineage_cli.specs.Run.{answer_of, answer_to, Stream, is_memory, IsOutcome, IsRefused, WhyNotRead, IsReason}
 use Rattle.lineage_cli.proofs.OutputLemmas.{begins_still}
@@ -22,16 +24,15 @@ answer_within command bytes few =
 
 -- ---- the input was read, and is refused
 
+-- a command's answer may be an ending of this class
+abbrev pub may_answer : Class → Bool
+may_answer (Class.Refused refusal) = true
+may_answer Class.Memory = true
+may_answer _ = false
+
 -- an ending that a command's answer may be
 abbrev pub is_answer : Ending → Bool
-is_answer Usage = false
-is_answer InputFault = false
-is_answer OutFault = false
-is_answer Memory = true
-is_answer (InputLimit found) = true
-is_answer (Input line) = true
-is_answer (Table refusal) = true
-is_answer (Illegal entry rule) = true
+is_answer ending = may_answer (class_of ending)
 
 -- a refusal is the answer
 refused_answer : (answer : Result (List ℕ) Ending) (ending : Ending) (out : Stream) → answer ≡ Err ending → IsRefused answer ending out out
@@ -40,13 +41,10 @@ refused_answer answer ending out refused = record { cause = refused; kept = keep
 -- an answer that is refused, or for which memory ran out
 pub refused_outcome : (answer : Result (List ℕ) Ending) (ending : Ending) (out : Stream) → ((other : Ending) → answer ≡ Err other → is_answer other ≡ true) → OnFalse (is_memory ending) (answer ≡ Err ending) → IsOutcome answer out out (Err ending)
 refused_outcome answer Memory out answers refused = begins_still out.bytes _
-refused_outcome answer (InputLimit found) out answers refused = refused_answer answer (InputLimit found) out refused
-refused_outcome answer (Input line) out answers refused = refused_answer answer (Input line) out refused
-refused_outcome answer (Table why) out answers refused = refused_answer answer (Table why) out refused
-refused_outcome answer (Illegal entry rule) out answers refused = refused_answer answer (Illegal entry rule) out refused
 refused_outcome answer OutFault out answers refused = absurd (cc (answers OutFault refused))
 refused_outcome answer Usage out answers refused = absurd (cc (answers Usage refused))
 refused_outcome answer InputFault out answers refused = absurd (cc (answers InputFault refused))
+refused_outcome answer ending out answers refused = refused_answer answer ending out refused
 
 -- the same for bytes within the limit
 pub refused_within : (command : Command) (bytes : List ℕ) (ending : Ending) (out : Stream) → length bytes ≤ most_input command → ((other : Ending) → answer_of command bytes ≡ Err other → is_answer other ≡ true)
@@ -77,8 +75,4 @@ unread_reason command input inputs out (InputLimit found) why =
       outcome = too_much command why.1.0 found out why.1.2 why.0;
     }
 unread_reason command input inputs out Memory why = inr (keeps_still out.bytes)
-unread_reason command input inputs out Usage why = absurd why
-unread_reason command input inputs out OutFault why = absurd why
-unread_reason command input inputs out (Input line) why = absurd why
-unread_reason command input inputs out (Table refusal) why = absurd why
-unread_reason command input inputs out (Illegal entry rule) why = absurd why
+unread_reason command input inputs out _ why = absurd why

@@ -1,4 +1,4 @@
--- How a run ends that doesn't answer: its status, and its one line.
+-- How a run ends that doesn't answer: its class, its status, and its one line.
 use Rattle.std.specs.Prelude.{ℕ, ℤ, List, ◌++◌, codes, decimal}
 use Rattle.std.specs.Fmt.{signed_decimal}
 use Rattle.hex.specs.Hex.{encode_lower}
@@ -17,64 +17,9 @@ use Rattle.row_file.specs.declared.refusal.RowRefusal.TheVariants as refusals
 use Rattle.lineage_cli.specs.declared.ending.Ending.{Ending}
 use Rattle.lineage_cli.specs.declared.ending.Ending.TheVariants.{Usage, InputFault, InputLimit, Input, Table, Illegal, OutFault, Memory}
 use Rattle.lineage_model.specs.RuleName.{name_of}
+use Rattle.lineage_cli.specs.Class.{RefusalClass, Class, class_status}
 
--- ---- the status
-
--- 3 for bytes that are no container, 7 where they are too many, 6 for want of memory
-abbrev pub container_status : ContainerRefusal → ℕ
-container_status (containers.Limit found) = 7
-container_status containers.Memory = 6
-container_status containers.Magic = 3
-container_status (containers.Header place) = 3
-container_status (containers.Codec name) = 3
-container_status (containers.Short place) = 3
-container_status (containers.Form block) = 3
-container_status (containers.Sync block) = 3
-
--- 3 for a text that is no schema, 6 for want of memory
-abbrev pub schema_status : SchemaRefusal → ℕ
-schema_status schemas.Memory = 6
-schema_status schemas.NotJson = 3
-schema_status (schemas.Form path) = 3
-schema_status (schemas.Unknown name) = 3
-schema_status schemas.Nesting = 3
-
--- 3 for bytes that are no row, 6 for want of memory
-abbrev pub datum_status : DatumRefusal → ℕ
-datum_status datums.Memory = 6
-datum_status (datums.Short place) = 3
-datum_status (datums.TooLong place) = 3
-datum_status (datums.Flag place) = 3
-datum_status (datums.Branch place) = 3
-datum_status (datums.Utf8 place) = 3
-datum_status (datums.Size place) = 3
-datum_status (datums.Items place) = 3
-
--- 3 for a file that is refused, 7 where a limit is passed, 6 for want of memory
-abbrev pub table_status : RowRefusal → ℕ
-table_status (refusals.Container refusal) = container_status refusal
-table_status (refusals.Schema refusal) = schema_status refusal
-table_status (refusals.Datum refusal) = datum_status refusal
-table_status (refusals.Limit which found) = 7
-table_status refusals.Memory = 6
-table_status (refusals.MissingColumn id) = 3
-table_status (refusals.Kind id) = 3
-table_status (refusals.Rest block) = 3
-table_status (refusals.RecordCount told found) = 3
-table_status (refusals.IdsSpent first rows) = 3
-
--- the status of an ending
-abbrev pub status_of : Ending → ℕ
-status_of Usage = 1
-status_of (Table refusal) = table_status refusal
-status_of InputFault = 5
-status_of OutFault = 5
-status_of Memory = 6
-status_of (InputLimit found) = 7
-status_of (Input line) = 2
-status_of (Illegal entry rule) = 4
-
--- ---- the line
+-- ---- how a line ends
 
 -- a line that ends with a number
 abbrev numbered : List ℕ → ℕ → List ℕ
@@ -96,6 +41,14 @@ quoted front text = front ++ (literal_text text ++ codes "\n")
 abbrev pub limit_front : Which → List ℕ
 limit_front which = codes "rowline: limit " ++ (name_of_limit which ++ codes " ")
 
+-- ---- a container
+
+-- the class of bytes that are no container: a limit, memory, or else a table
+abbrev pub container_class : ContainerRefusal → RefusalClass
+container_class (containers.Limit found) = RefusalClass.Limit
+container_class containers.Memory = RefusalClass.Memory
+container_class _ = RefusalClass.Table
+
 -- the line for bytes that are no container
 abbrev pub container_line : ContainerRefusal → List ℕ
 container_line (containers.Limit found) = numbered (limit_front Object) found
@@ -107,6 +60,13 @@ container_line (containers.Form block) = numbered (codes "rowline: table Form ")
 container_line (containers.Sync block) = numbered (codes "rowline: table Sync ") block
 container_line containers.Memory = codes "rowline: memory\n"
 
+-- ---- a schema
+
+-- the class of a text that is no schema: memory, or else a table
+abbrev pub schema_class : SchemaRefusal → RefusalClass
+schema_class schemas.Memory = RefusalClass.Memory
+schema_class _ = RefusalClass.Table
+
 -- the line for a text that is no schema
 abbrev pub schema_line : SchemaRefusal → List ℕ
 schema_line schemas.NotJson = codes "rowline: table NotJson\n"
@@ -114,6 +74,13 @@ schema_line (schemas.Form path) = quoted (codes "rowline: table Form ") path
 schema_line (schemas.Unknown name) = quoted (codes "rowline: table Unknown ") name
 schema_line schemas.Nesting = codes "rowline: table Nesting\n"
 schema_line schemas.Memory = codes "rowline: memory\n"
+
+-- ---- a row
+
+-- the class of bytes that are no row: memory, or else a table
+abbrev pub datum_class : DatumRefusal → RefusalClass
+datum_class datums.Memory = RefusalClass.Memory
+datum_class _ = RefusalClass.Table
 
 -- the line for bytes that are no row
 abbrev pub datum_line : DatumRefusal → List ℕ
@@ -125,6 +92,17 @@ datum_line (datums.Utf8 place) = numbered (codes "rowline: table Utf8 ") place
 datum_line (datums.Size place) = numbered (codes "rowline: table Size ") place
 datum_line (datums.Items place) = numbered (codes "rowline: table Items ") place
 datum_line datums.Memory = codes "rowline: memory\n"
+
+-- ---- a data file
+
+-- the class of a file that is refused: that of its part, a limit, memory, or else a table
+abbrev pub table_class : RowRefusal → RefusalClass
+table_class (refusals.Container refusal) = container_class refusal
+table_class (refusals.Schema refusal) = schema_class refusal
+table_class (refusals.Datum refusal) = datum_class refusal
+table_class (refusals.Limit which found) = RefusalClass.Limit
+table_class refusals.Memory = RefusalClass.Memory
+table_class _ = RefusalClass.Table
 
 -- the line for a file that is refused
 abbrev pub table_line : RowRefusal → List ℕ
@@ -138,6 +116,23 @@ table_line (refusals.RecordCount told found) = with_both (codes "rowline: table 
 table_line (refusals.IdsSpent first rows) = with_both (codes "rowline: table IdsSpent ") first rows
 table_line (refusals.Limit which found) = numbered (limit_front which) found
 table_line refusals.Memory = codes "rowline: memory\n"
+
+-- ---- an ending
+
+-- the class of an ending
+abbrev pub class_of : Ending → Class
+class_of Usage = Class.Usage
+class_of (Table refusal) = Class.Refused (table_class refusal)
+class_of InputFault = Class.InputFault
+class_of OutFault = Class.OutFault
+class_of Memory = Class.Memory
+class_of (InputLimit found) = Class.Refused RefusalClass.Limit
+class_of (Input line) = Class.Refused RefusalClass.Input
+class_of (Illegal entry rule) = Class.Refused RefusalClass.Rule
+
+-- the status of an ending
+abbrev pub status_of : Ending → ℕ
+status_of ending = class_status (class_of ending)
 
 -- the line of an ending
 abbrev pub line_of : Ending → List ℕ

@@ -3,6 +3,7 @@ pub mod Output
 pub mod Input
 pub mod Rows
 pub mod Text
+pub mod Class
 pub mod Ending
 pub mod Audit
 pub mod Line

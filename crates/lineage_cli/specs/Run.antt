@@ -8,10 +8,11 @@ use Rattle.lt_port.specs.declared.failure.PortError.TheVariants.{Failed}
 use Rattle.lineage_cli.specs.declared.command.Command.{Command}
 use Rattle.lineage_cli.specs.declared.command.Command.TheVariants.{Rows, Audit}
 use Rattle.lineage_cli.specs.declared.ending.Ending.{Ending}
-use Rattle.lineage_cli.specs.declared.ending.Ending.TheVariants.{Usage, InputFault, InputLimit, Input, Table, Illegal, OutFault, Memory}
+use Rattle.lineage_cli.specs.declared.ending.Ending.TheVariants.{Usage, InputFault, InputLimit, Table, Memory}
 use Rattle.lineage_cli.specs.declared.input.InputRefusal.TheVariants as refusals
 use Rattle.lineage_cli.specs.Command.{Asks}
-use Rattle.lineage_cli.specs.Ending.{status_of, line_of}
+use Rattle.lineage_cli.specs.Class.{Class}
+use Rattle.lineage_cli.specs.Ending.{class_of, status_of, line_of}
 use Rattle.lineage_cli.specs.Input.{most_input, StopsBy}
 use Rattle.lineage_cli.specs.Output.{AppendsFront, Puts}
 use Rattle.lineage_cli.specs.Rows.{file_rows}
@@ -52,28 +53,23 @@ pub record IsRefused (answer : Result (List ℕ) Ending) (ending : Ending) (out 
   pub cause : answer ≡ Err ending
   pub kept : Keeps out.bytes outs.bytes
 
--- why a run ended so whose input was read; for want of memory it ends anywhere, with a front of the answer
+-- why a run whose input was read ended so, by the class of its ending; if memory ran out, it ended anywhere, with a front of the answer
+abbrev pub IsOutcomeOf : Class → Result (List ℕ) Ending → Ending → Stream → Stream → Type 0
+IsOutcomeOf (Class.Refused refusal) answer ending out outs = IsRefused answer ending out outs
+IsOutcomeOf Class.OutFault answer ending out outs = IsCut answer out outs
+IsOutcomeOf Class.Memory answer ending out outs = AppendsFront out.bytes outs.bytes (value_or [] answer)
+IsOutcomeOf Class.Usage answer ending out outs = ⊥
+IsOutcomeOf Class.InputFault answer ending out outs = ⊥
+
+-- why a run whose input was read ended so, or why it answered
 abbrev pub IsOutcome : Result (List ℕ) Ending → Stream → Stream → Result (Unit {0}) Ending → Type 0
 IsOutcome answer out outs (Ok done) = IsPrinted answer out outs
-IsOutcome answer out outs (Err OutFault) = IsCut answer out outs
-IsOutcome answer out outs (Err Memory) = AppendsFront out.bytes outs.bytes (value_or [] answer)
-IsOutcome answer out outs (Err (InputLimit found)) = IsRefused answer (InputLimit found) out outs
-IsOutcome answer out outs (Err (Input line)) = IsRefused answer (Input line) out outs
-IsOutcome answer out outs (Err (Table refusal)) = IsRefused answer (Table refusal) out outs
-IsOutcome answer out outs (Err (Illegal entry rule)) = IsRefused answer (Illegal entry rule) out outs
-IsOutcome answer out outs (Err Usage) = ⊥
-IsOutcome answer out outs (Err InputFault) = ⊥
+IsOutcome answer out outs (Err ending) = IsOutcomeOf (class_of ending) answer ending out outs
 
 -- memory ran out, the one free ending
 abbrev pub is_memory : Ending → Bool
 is_memory Memory = true
-is_memory Usage = false
-is_memory InputFault = false
-is_memory (InputLimit found) = false
-is_memory (Input line) = false
-is_memory (Illegal entry rule) = false
-is_memory OutFault = false
-is_memory (Table refusal) = false
+is_memory _ = false
 
 -- ---- what it does to the input
 
@@ -82,11 +78,7 @@ abbrev pub WhyNotRead : ℕ → Ending → Stream → Stream → Type 0
 WhyNotRead most InputFault input inputs = Rose input.faults inputs.faults × StopsBy most input.bytes inputs.bytes refusals.Fault
 WhyNotRead most (InputLimit found) input inputs = (found ≡ most + 1) × StopsBy most input.bytes inputs.bytes refusals.Limit
 WhyNotRead most Memory input inputs = Unit {0}
-WhyNotRead most Usage input inputs = ⊥
-WhyNotRead most OutFault input inputs = ⊥
-WhyNotRead most (Input line) input inputs = ⊥
-WhyNotRead most (Table refusal) input inputs = ⊥
-WhyNotRead most (Illegal entry rule) input inputs = ⊥
+WhyNotRead most _ input inputs = ⊥
 
 -- the bytes that came: all of them, or one above the limit; and what the command made of them
 pub record IsRead (command : Command) (input inputs out outs : Stream) (ended : Result (Unit {0}) Ending) : Type 0 where
@@ -96,17 +88,18 @@ pub record IsRead (command : Command) (input inputs out outs : Stream) (ended : 
   pub end : length bytes ≤ most_input command → IsAtEnd inputs.bytes
   pub outcome : IsOutcome (answer_to command bytes) out outs ended
 
--- why the run of a command ended so: by what was read, unless the input failed or memory ran out before; then nothing is printed
+-- why the run of a command ended so, by the class of its ending: by what was read, unless the input failed or memory ran out before; then nothing is printed
+abbrev pub IsReasonOf : Class → Command → Ending → Stream → Stream → Stream → Stream → Type 0
+IsReasonOf (Class.Refused refusal) command ending input inputs out outs = IsRead command input inputs out outs (Err ending)
+IsReasonOf Class.OutFault command ending input inputs out outs = IsRead command input inputs out outs (Err ending)
+IsReasonOf Class.InputFault command ending input inputs out outs = WhyNotRead (most_input command) ending input inputs × Keeps out.bytes outs.bytes
+IsReasonOf Class.Memory command ending input inputs out outs = IsRead command input inputs out outs (Err ending) ⊎ Keeps out.bytes outs.bytes
+IsReasonOf Class.Usage command ending input inputs out outs = ⊥
+
+-- why the run of a command ended so, or why it answered
 abbrev pub IsReason : Command → Stream → Stream → Stream → Stream → Result (Unit {0}) Ending → Type 0
 IsReason command input inputs out outs (Ok done) = IsRead command input inputs out outs (Ok done)
-IsReason command input inputs out outs (Err OutFault) = IsRead command input inputs out outs (Err OutFault)
-IsReason command input inputs out outs (Err (InputLimit found)) = IsRead command input inputs out outs (Err (InputLimit found))
-IsReason command input inputs out outs (Err (Input line)) = IsRead command input inputs out outs (Err (Input line))
-IsReason command input inputs out outs (Err (Table refusal)) = IsRead command input inputs out outs (Err (Table refusal))
-IsReason command input inputs out outs (Err (Illegal entry rule)) = IsRead command input inputs out outs (Err (Illegal entry rule))
-IsReason command input inputs out outs (Err InputFault) = WhyNotRead (most_input command) InputFault input inputs × Keeps out.bytes outs.bytes
-IsReason command input inputs out outs (Err Memory) = IsRead command input inputs out outs (Err Memory) ⊎ Keeps out.bytes outs.bytes
-IsReason command input inputs out outs (Err Usage) = ⊥
+IsReason command input inputs out outs (Err ending) = IsReasonOf (class_of ending) command ending input inputs out outs
 
 -- ---- a run
 

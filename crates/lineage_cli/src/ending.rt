@@ -5,7 +5,8 @@ ghost use Rattle.std.specs.Fmt.{signed_decimal};
 ghost use Rattle.pieces.specs.Literal.{literal_text};
 ghost use Rattle.lineage_model.specs.RuleName.{name_of};
 ghost use Rattle.lt_port.specs.Faults.{HasCause};
-ghost use Rattle.lineage_cli.specs.Ending.{status_of as status, table_status};
+ghost use Rattle.lineage_cli.specs.Class.{refusal_status};
+ghost use Rattle.lineage_cli.specs.Ending.{status_of as status, table_class};
 ghost use Rattle.lineage_cli.specs.Ending.{line_of, limit_front as front_of, table_line};
 ghost use Rattle.lineage_cli.specs.Ending.{container_line, schema_line, datum_line};
 ghost use Rattle.lineage_cli.specs.Line.{detail_text};
@@ -73,7 +74,7 @@ pub fn tell<E: Sink>(alloc: Global, err: &mut E, ending: &Ending)
 
 /// The exit status for a file that is refused.
 fn status_of_table(refusal: &RowRefusal) -> u8
-    ensures { result ≡ table_status refusal.now }
+    ensures { result ≡ refusal_status (table_class refusal.now) }
 {
     match refusal {
         RowRefusal::Container(ContainerRefusal::Limit { .. }) | RowRefusal::Limit { .. } => 7,
