@@ -12,10 +12,10 @@ pub const SCHEMA: &[u8] = b"{\"type\":\"record\",\"name\":\"row\",\"fields\":[\
     {\"name\":\"n\",\"type\":\"long\",\"field-id\":1},\
     {\"name\":\"s\",\"type\":[\"null\",\"string\"],\"default\":null,\"field-id\":2}]}";
 
-/// What stands before the schema, in a map of two pairs.
+/// The bytes before the schema, in a map of two pairs.
 pub const FRONT: &[u8] = b"Obj\x01\x04\x16avro.schema\xa6\x02";
 
-/// What stands before a codec's name, and behind the schema.
+/// The bytes between the schema and a codec's name.
 pub const CODEC: &[u8] = b"\x14avro.codec";
 
 /// A marker.

@@ -3,7 +3,7 @@
 //! | Module | What it tries |
 //! |---|---|
 //! | `rows` | what is asserted of a table |
-//! | `numbers`, `sized` | numbers, and what stands behind its length, in `avro_wire` |
+//! | `numbers`, `sized` | numbers, and bytes and texts with their lengths, in `avro_wire` |
 //! | `schemas`, `no_schemas`, `limits` | texts that are schemas, that are none, and that are too large |
 //! | `parts` | the parts of a value, as tables name them |
 //! | `values`, `no_values`, `fitting` | bytes that are values, that are none, and values that fit |

@@ -10,13 +10,13 @@ pub enum Part {
     Num(i64),
     Raw(&'static [u8]),
     Str(&'static str),
-    /// The place of a branch. Its value stands behind it.
+    /// The place of a branch. Its value comes next.
     Branch(u32),
-    /// How many fields there are. Their values stand behind it.
+    /// How many fields there are. Their values come next.
     Rec(usize),
-    /// How many items there are. They stand behind it.
+    /// How many items there are. They come next.
     Array(usize),
-    /// How many pairs there are. They stand behind it, each a text and a value.
+    /// How many pairs there are. They come next, each a text and a value.
     Map(usize),
 }
 
