@@ -1,13 +1,14 @@
 -- What it is to be read as what a value means; a word that is read is so.
 use Rattle.std.proofs.Common.{◌≡◌, ℕ, ◌+◌, ◌≤◌, List, Option, Some, None, Ok, refl, sym, ap, subst, ◌∙◌, arith}
 use Rattle.serde_json.specs.Data.{Data, string}
-use Rattle.avro_schema.specs.declared.schema.Schema.{Schema}
-use Rattle.avro_schema.specs.Tree.{depth, size}
+use Rattle.schema_tree.specs.declared.schema.Schema.{Schema}
+use Rattle.schema_tree.specs.Tree.{depth, size}
 use Rattle.avro_schema.specs.Defined.{Seen, known_as, full_name}
 use Rattle.avro_schema.specs.Reading.{Reader, primitive_of, counted, use_of, word_at}
 use Rattle.avro_schema.specs.Meaning.{Means, primitive_word, name}
 use Rattle.avro_schema.proofs.Steps.{map_then, count_then, more}
-use Rattle.avro_schema.proofs.TreeLaws.{IsAlone, alone_primitive}
+use Rattle.schema_tree.specs.TreeLaws.{IsAlone}
+use Rattle.avro_schema.proofs.PrimitiveLaws.{alone_primitive}
 
 -- what was read is the schema that the value means, counted, with room for so many levels above it
 pub record Found (above room : ℕ) (scope : List ℕ) (seen : Seen) (value : Data) (taken : Schema × Seen) : Type 0 where

@@ -1,16 +1,16 @@
 -- What is read of a list is a union of the branches that its values mean.
 use Rattle.std.proofs.Common.{◌≡◌, ◌≢◌, ℕ, ◌+◌, ◌≤◌, List, [], ◌∷◌, ◌++◌, Ok, decimal, append_assoc, append-nil, sym, subst, ◌∙◌, arith}
 use Rattle.serde_json.specs.Data.{Data, array, Items}
-use Rattle.avro_schema.specs.declared.schema.Schema.{Schema}
-use Rattle.avro_schema.specs.declared.schema.Schema.TheVariants as schemas
+use Rattle.schema_tree.specs.declared.schema.Schema.{Schema}
+use Rattle.schema_tree.specs.declared.schema.Schema.TheVariants as schemas
 use Rattle.avro_schema.specs.Refusal.{under}
-use Rattle.avro_schema.specs.Measure.{depth_of_branches, size_of_branches}
+use Rattle.schema_tree.specs.Measure.{depth_of_branches, size_of_branches}
 use Rattle.avro_schema.specs.Member.{values_of}
 use Rattle.avro_schema.specs.Defined.{Seen}
 use Rattle.avro_schema.specs.Reading.{Reader, counted, branch_at, branches_at, union_at}
 use Rattle.avro_schema.specs.Meaning.{union, AreBranches, no_branch, branch, IsNoUnion}
 use Rattle.avro_schema.proofs.Steps.{bind_then, map_then, count_then, more, ok_is, under_ok}
-use Rattle.avro_schema.proofs.TreeLaws.{depth-Union, size-Union, branches_cons}
+use Rattle.schema_tree.specs.TreeLaws.{depth-Union, size-Union, branches_cons}
 use Rattle.avro_schema.proofs.MeansPart.{branch_then}
 use Rattle.avro_schema.proofs.Found.{Found, Finds}
 

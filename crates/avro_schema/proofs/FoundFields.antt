@@ -1,16 +1,16 @@
 -- What is read of a record's values are the fields that they mean.
 use Rattle.std.proofs.Common.{◌≡◌, ℕ, ◌+◌, ◌≤◌, List, [], ◌∷◌, ◌++◌, codes, Result, Ok, decimal, refl, sym, ap, subst, ◌∙◌, arith}
 use Rattle.serde_json.specs.Data.{Data, null, boolean, number, string, array, object, Members}
-use Rattle.avro_schema.specs.declared.schema.Field.{Field}
+use Rattle.schema_tree.specs.declared.schema.Field.{Field}
 use Rattle.avro_schema.specs.declared.refusal.SchemaRefusal.{SchemaRefusal}
 use Rattle.avro_schema.specs.Refusal.{under}
-use Rattle.avro_schema.specs.Measure.{depth_of_fields, size_of_fields}
+use Rattle.schema_tree.specs.Measure.{depth_of_fields, size_of_fields}
 use Rattle.avro_schema.specs.Member.{needed, text_at, id_at}
 use Rattle.avro_schema.specs.Defined.{Seen}
 use Rattle.avro_schema.specs.Reading.{Reader, new_field_name, field_at, fields_at}
 use Rattle.avro_schema.specs.Meaning.{AreFields, no_field, field}
 use Rattle.avro_schema.proofs.Steps.{bind_then, ok_is, under_ok}
-use Rattle.avro_schema.proofs.TreeLaws.{field_of, depth-push, size-push}
+use Rattle.schema_tree.specs.TreeLaws.{field_of, depth-push, size-push}
 use Rattle.avro_schema.proofs.MeansPart.{new_then, needed_found}
 use Rattle.avro_schema.proofs.Found.{Found, Finds}
 

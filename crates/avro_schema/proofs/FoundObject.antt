@@ -5,8 +5,8 @@ use Rattle.std.specs.Str.{bytes_eq}
 use Rattle.words.specs.Reading.{◌>>=◌}
 use Rattle.serde_json.specs.Data.{object, Members}
 use Rattle.serde_json.specs.Find.{get_member}
-use Rattle.avro_schema.specs.declared.schema.Schema.{Schema}
-use Rattle.avro_schema.specs.declared.schema.Schema.TheVariants as schemas
+use Rattle.schema_tree.specs.declared.schema.Schema.{Schema}
+use Rattle.schema_tree.specs.declared.schema.Schema.TheVariants as schemas
 use Rattle.avro_schema.specs.declared.refusal.SchemaRefusal.TheVariants.{Form}
 use Rattle.avro_schema.specs.Refusal.{under}
 use Rattle.avro_schema.specs.Member.{needed, text_at, list_at, fixed_size_at, id_at, is_text}
@@ -14,7 +14,8 @@ use Rattle.avro_schema.specs.Defined.{Definitions, Seen, namespace_of, with_name
 use Rattle.avro_schema.specs.Reading.{Reader, primitive_of, logical_of, counted, name_at, fields_at, texts_at, record_at, enum_at, fixed_at, array_at, map_at, complex_at, typed_at, layer_at}
 use Rattle.avro_schema.specs.Meaning.{Means, primitive_type, record_type, enum_type, fixed_type, array_type, map_type, AreTexts, HasType}
 use Rattle.avro_schema.proofs.Steps.{bind_then, count_then, either_then, more, ok_is, under_ok}
-use Rattle.avro_schema.proofs.TreeLaws.{IsAlone, alone_primitive, alone_logical, alone-Fixed, alone-Enum, depth-Rec, size-Rec, depth-Array, size-Array, depth-Map, size-Map}
+use Rattle.schema_tree.specs.TreeLaws.{IsAlone, alone-Fixed, alone-Enum, depth-Rec, size-Rec, depth-Array, size-Array, depth-Map, size-Map}
+use Rattle.avro_schema.proofs.PrimitiveLaws.{alone_primitive, alone_logical}
 use Rattle.avro_schema.proofs.MeansPart.{name_found, needed_found, TextsFound, texts_found}
 use Rattle.avro_schema.proofs.Found.{Found, Finds}
 use Rattle.avro_schema.proofs.FoundFields.{FieldsFound, fields_found}

@@ -7,7 +7,7 @@ use Rattle.json.proofs.Printed.Decimals.{IsNumber-signed_decimal}
 use Rattle.serde_json.specs.Read.{number_of}
 use Rattle.serde_json.specs.Find.{of_integer}
 use Rattle.serde_json.proofs.Numbers.{number_of-decimal, number_of-negative}
-use Rattle.avro_schema.specs.Ids.{is_id}
+use Rattle.schema_tree.specs.Ids.{is_id}
 use Rattle.avro_schema.specs.Member.{int_of_number}
 
 -- it is a number

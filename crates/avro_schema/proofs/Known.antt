@@ -7,12 +7,12 @@ use Rattle.json.specs.Tree as tree
 use Rattle.serde_json.specs.Data.{Data, string, object, Members}
 use Rattle.serde_json.specs.Read.{of_json}
 use Rattle.words.specs.Reading.{◌>>=◌, map_value}
-use Rattle.avro_schema.specs.declared.schema.Schema.{Schema}
+use Rattle.schema_tree.specs.declared.schema.Schema.{Schema}
 use Rattle.avro_schema.specs.declared.refusal.SchemaRefusal.{SchemaRefusal}
 use Rattle.avro_schema.specs.Printing.{Written, written}
 use Rattle.avro_schema.specs.Printable.{Spelled, spelled, are_distinct}
-use Rattle.avro_schema.specs.Tree.{depth, size}
-use Rattle.avro_schema.specs.Ids.{has_ids}
+use Rattle.schema_tree.specs.Tree.{depth, size}
+use Rattle.schema_tree.specs.Ids.{has_ids}
 use Rattle.avro_schema.specs.Defined.{Seen}
 use Rattle.avro_schema.specs.Member.{text_at}
 use Rattle.avro_schema.specs.Reading.{primitive_of, counted, word_at, typed_at, branch_at, schema_at}

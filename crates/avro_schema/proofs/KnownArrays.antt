@@ -7,18 +7,18 @@ use Rattle.serde_json.specs.Data.{Data, string, object, Members, no_members, put
 use Rattle.serde_json.specs.Read.{of_members}
 use Rattle.serde_json.specs.Find.{get_member}
 use Rattle.words.specs.Reading.{◌>>=◌}
-use Rattle.avro_schema.specs.declared.schema.Schema.{Schema}
-use Rattle.avro_schema.specs.declared.schema.Schema.TheVariants as schemas
-use Rattle.avro_schema.specs.declared.schema.Schema.TheOpen as open_schema
+use Rattle.schema_tree.specs.declared.schema.Schema.{Schema}
+use Rattle.schema_tree.specs.declared.schema.Schema.TheVariants as schemas
+use Rattle.schema_tree.specs.declared.schema.Schema.TheOpen as open_schema
 use Rattle.avro_schema.specs.Refusal.{under}
 use Rattle.avro_schema.specs.Printing.{Written, written, written_of, written_field, id_member, keyed_member}
 use Rattle.avro_schema.specs.Printable.{Spelled, spelled, spelled_of, spelled_field, are_distinct}
-use Rattle.avro_schema.specs.Tree.{depth, size, depth_of, size_of, number_of_field}
-use Rattle.avro_schema.specs.Ids.{is_id, has_ids, ids_of, ids_of_field}
+use Rattle.schema_tree.specs.Tree.{depth, size, depth_of, size_of, number_of_field}
+use Rattle.schema_tree.specs.Ids.{is_id, has_ids, ids_of, ids_of_field}
 use Rattle.avro_schema.specs.Defined.{Seen}
 use Rattle.avro_schema.specs.Member.{id_at, needed, or_form, is_text}
 use Rattle.avro_schema.specs.Reading.{array_at, schema_at}
-use Rattle.avro_schema.proofs.Equations.{fold_array}
+use Rattle.schema_tree.specs.Equations.{fold_array}
 use Rattle.avro_schema.proofs.TakenLaws.{AreFree}
 use Rattle.avro_schema.proofs.WrittenParts.{id_json, id_tokens, id_numbers, id_depth, id_read, keyed_json, keyed_put, keyed_tokens, keyed_numbers, keyed_depth, keyed_read, array_members, array_type, array_items, array_keyed, array_id}
 use Rattle.avro_schema.proofs.Known.{Reads, Known, IsKnown, known_by, counts, more_seen, typed}

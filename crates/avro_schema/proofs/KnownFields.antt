@@ -12,19 +12,19 @@ use Rattle.serde_json.specs.Data.{Data, string, object, Items, no_items, item, M
 use Rattle.serde_json.specs.Read.{of_json, of_items, of_members}
 use Rattle.serde_json.specs.Find.{get_member}
 use Rattle.words.specs.Reading.{◌>>=◌}
-use Rattle.avro_schema.specs.declared.schema.Schema.{Schema}
-use Rattle.avro_schema.specs.declared.schema.Field.{Field, out-Field, roll-Field}
-use Rattle.avro_schema.specs.declared.schema.Schema.TheViews.{roll-out-Field}
+use Rattle.schema_tree.specs.declared.schema.Schema.{Schema}
+use Rattle.schema_tree.specs.declared.schema.Field.{Field, out-Field, roll-Field}
+use Rattle.schema_tree.specs.declared.schema.Schema.TheViews.{roll-out-Field}
 use Rattle.avro_schema.specs.Refusal.{under}
 use Rattle.avro_schema.specs.Printing.{Written, written, written_of, written_field, id_member, default_member, all_tokens}
 use Rattle.avro_schema.specs.Printable.{Spelled, SpelledField, spelled, spelled_of, spelled_field, are_distinct, levels_of, schemas_of, field_names, field_levels}
-use Rattle.avro_schema.specs.Tree.{depth, size, depth_of, size_of, number_of_field, largest}
-use Rattle.avro_schema.specs.Ids.{is_id, all_true, has_ids, ids_of, ids_of_field}
+use Rattle.schema_tree.specs.Tree.{depth, size, depth_of, size_of, number_of_field, largest}
+use Rattle.schema_tree.specs.Ids.{is_id, all_true, has_ids, ids_of, ids_of_field}
 use Rattle.avro_schema.specs.Defined.{Seen}
 use Rattle.avro_schema.specs.Member.{values_of, id_at, text_at, needed, or_form}
 use Rattle.avro_schema.specs.Reading.{field_at, fields_at, new_field_name, has_field, schema_at}
-use Rattle.avro_schema.proofs.Equations.{of_field}
-use Rattle.avro_schema.proofs.Inductions.{Each}
+use Rattle.schema_tree.specs.Equations.{of_field}
+use Rattle.schema_tree.specs.Inductions.{Each}
 use Rattle.avro_schema.proofs.TakenLaws.{AreFree, parted, still_free, free_parts, keeps_then}
 use Rattle.avro_schema.proofs.WrittenParts.{id_json, id_tokens, id_numbers, id_depth, id_read, default_json, default_put, default_tokens, default_numbers, default_depth, default_read, field_members, field_name, field_type, field_id}
 use Rattle.avro_schema.proofs.Known.{Reads, Known, IsKnown}

@@ -3,15 +3,15 @@ use Rattle.std.proofs.Common.{◌≡◌, true, false, codes, refl, arith, Bool, 
 use Rattle.std.proofs.lemmas.Bool.{false≢true}
 use Rattle.json.specs.Json as json
 use Rattle.serde_json.specs.Data.{string, boolean, object, Members, no_members, put}
-use Rattle.avro_schema.specs.declared.schema.Schema.TheVariants as schemas
-use Rattle.avro_schema.specs.declared.schema.Logical.{Logical}
-use Rattle.avro_schema.specs.declared.schema.Logical.TheVariants.{Plain, Date, TimeMicros, StampMicros, StampMicrosUtc}
-use Rattle.avro_schema.specs.declared.schema.Schema.TheOpen as open_schema
+use Rattle.schema_tree.specs.declared.schema.Schema.TheVariants as schemas
+use Rattle.schema_tree.specs.declared.schema.Logical.{Logical}
+use Rattle.schema_tree.specs.declared.schema.Logical.TheVariants.{Plain, Date, TimeMicros, StampMicros, StampMicrosUtc}
+use Rattle.schema_tree.specs.declared.schema.Schema.TheOpen as open_schema
 use Rattle.avro_schema.specs.Printing.{written_of, written_field}
 use Rattle.avro_schema.specs.Printable.{spelled_of, spelled_field}
-use Rattle.avro_schema.specs.Tree.{depth_of, size_of, number_of_field}
-use Rattle.avro_schema.specs.Ids.{ids_of, ids_of_field}
-use Rattle.avro_schema.proofs.Equations.{fold_null, fold_boolean, fold_int, fold_long, fold_float, fold_double, fold_raw, fold_str}
+use Rattle.schema_tree.specs.Tree.{depth_of, size_of, number_of_field}
+use Rattle.schema_tree.specs.Ids.{ids_of, ids_of_field}
+use Rattle.schema_tree.specs.Equations.{fold_null, fold_boolean, fold_int, fold_long, fold_float, fold_double, fold_raw, fold_str}
 use Rattle.avro_schema.proofs.Known.{Known, IsKnown, known_by, leaf, word_known, typed}
 
 -- ---- words

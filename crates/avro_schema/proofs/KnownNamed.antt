@@ -9,17 +9,17 @@ use Rattle.serde_json.specs.Data.{number, unsigned, string, array, object, Items
 use Rattle.serde_json.specs.Read.{of_items}
 use Rattle.serde_json.proofs.Numbers.{number_of-decimal}
 use Rattle.words.specs.Reading.{◌>>=◌}
-use Rattle.avro_schema.specs.declared.schema.Schema.TheVariants as schemas
-use Rattle.avro_schema.specs.declared.schema.Schema.TheOpen as open_schema
+use Rattle.schema_tree.specs.declared.schema.Schema.TheVariants as schemas
+use Rattle.schema_tree.specs.declared.schema.Schema.TheOpen as open_schema
 use Rattle.avro_schema.specs.Refusal.{under}
 use Rattle.avro_schema.specs.Printing.{written_of, written_field}
 use Rattle.avro_schema.specs.Printable.{spelled_of, spelled_field, is_avro_name}
-use Rattle.avro_schema.specs.Tree.{depth_of, size_of, number_of_field}
-use Rattle.avro_schema.specs.Ids.{ids_of, ids_of_field}
+use Rattle.schema_tree.specs.Tree.{depth_of, size_of, number_of_field}
+use Rattle.schema_tree.specs.Ids.{ids_of, ids_of_field}
 use Rattle.avro_schema.specs.Defined.{Seen, is_taken, defined, full_name}
 use Rattle.avro_schema.specs.Member.{values_of, text_at, list_at, fixed_size_at}
 use Rattle.avro_schema.specs.Reading.{scope_of, namespace_at, name_at, checked_name, texts_at, fixed_at, enum_at, schema_at}
-use Rattle.avro_schema.proofs.Equations.{fold_fixed, fold_enum}
+use Rattle.schema_tree.specs.Equations.{fold_fixed, fold_enum}
 use Rattle.avro_schema.proofs.TakenLaws.{AreFree, keeps_defined}
 use Rattle.avro_schema.proofs.Known.{Reads, Known, IsKnown, known_by, counts, more_seen, typed}
 

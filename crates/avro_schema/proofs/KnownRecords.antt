@@ -7,19 +7,19 @@ use Rattle.json.specs.Token.{Token}
 use Rattle.json.specs.Json as json
 use Rattle.serde_json.specs.Data.{string, array, object, Items, Members, no_members, put}
 use Rattle.words.specs.Reading.{◌>>=◌}
-use Rattle.avro_schema.specs.declared.schema.Schema.TheVariants as schemas
-use Rattle.avro_schema.specs.declared.schema.Schema.TheOpen as open_schema
-use Rattle.avro_schema.specs.declared.schema.Field.{Field}
+use Rattle.schema_tree.specs.declared.schema.Schema.TheVariants as schemas
+use Rattle.schema_tree.specs.declared.schema.Schema.TheOpen as open_schema
+use Rattle.schema_tree.specs.declared.schema.Field.{Field}
 use Rattle.avro_schema.specs.Refusal.{under}
 use Rattle.avro_schema.specs.Printing.{written_of, written_field}
 use Rattle.avro_schema.specs.Printable.{spelled_of, spelled_field, are_distinct, is_avro_name, field_names}
-use Rattle.avro_schema.specs.Tree.{depth_of, size_of, number_of_field, largest}
-use Rattle.avro_schema.specs.Ids.{all_true, ids_of, ids_of_field}
+use Rattle.schema_tree.specs.Tree.{depth_of, size_of, number_of_field, largest}
+use Rattle.schema_tree.specs.Ids.{all_true, ids_of, ids_of_field}
 use Rattle.avro_schema.specs.Defined.{Seen, is_taken, begun, defined, namespace_of}
 use Rattle.avro_schema.specs.Member.{values_of}
 use Rattle.avro_schema.specs.Reading.{fields_at, has_field, record_at, schema_at}
-use Rattle.avro_schema.proofs.Equations.{fold_record}
-use Rattle.avro_schema.proofs.Inductions.{Each}
+use Rattle.schema_tree.specs.Equations.{fold_record}
+use Rattle.schema_tree.specs.Inductions.{Each}
 use Rattle.avro_schema.proofs.TakenLaws.{AreFree, Keeps, no_namespace, parted, still_free, free_parts, keeps_defined}
 use Rattle.avro_schema.proofs.KnownNamed.{named}
 use Rattle.avro_schema.proofs.Known.{Reads, Known, IsKnown, known_by, counts, more_seen, typed}

@@ -9,19 +9,19 @@ use Rattle.json.specs.Tree as tree
 use Rattle.serde_json.specs.Data.{Data, array, Items, no_items, item}
 use Rattle.serde_json.specs.Read.{of_items}
 use Rattle.words.specs.Reading.{◌>>=◌, map_value}
-use Rattle.avro_schema.specs.declared.schema.Schema.{Schema}
-use Rattle.avro_schema.specs.declared.schema.Schema.TheVariants as schemas
-use Rattle.avro_schema.specs.declared.schema.Schema.TheOpen as open_schema
+use Rattle.schema_tree.specs.declared.schema.Schema.{Schema}
+use Rattle.schema_tree.specs.declared.schema.Schema.TheVariants as schemas
+use Rattle.schema_tree.specs.declared.schema.Schema.TheOpen as open_schema
 use Rattle.avro_schema.specs.Refusal.{under}
 use Rattle.avro_schema.specs.Printing.{written, written_of, written_field, all_tokens}
 use Rattle.avro_schema.specs.Printable.{Spelled, spelled, spelled_of, spelled_field, are_distinct, is_some_list, levels_of}
-use Rattle.avro_schema.specs.Tree.{depth, size, depth_of, size_of, number_of_field, largest}
-use Rattle.avro_schema.specs.Ids.{all_true, has_ids, ids_of, ids_of_field}
+use Rattle.schema_tree.specs.Tree.{depth, size, depth_of, size_of, number_of_field, largest}
+use Rattle.schema_tree.specs.Ids.{all_true, has_ids, ids_of, ids_of_field}
 use Rattle.avro_schema.specs.Defined.{Seen}
 use Rattle.avro_schema.specs.Member.{values_of}
 use Rattle.avro_schema.specs.Reading.{counted, branch_at, branches_at, union_at, schema_at}
-use Rattle.avro_schema.proofs.Equations.{fold_union}
-use Rattle.avro_schema.proofs.Inductions.{Each}
+use Rattle.schema_tree.specs.Equations.{fold_union}
+use Rattle.schema_tree.specs.Inductions.{Each}
 use Rattle.avro_schema.proofs.TakenLaws.{AreFree, parted, still_free, free_parts, keeps_then}
 use Rattle.avro_schema.proofs.Known.{Reads, Known, IsKnown, known_by, counts, more_seen}
 

@@ -5,8 +5,6 @@ pub mod ItemLaws
 pub mod PartLaws
 pub mod TextLaws
 mod Puts
-mod Equations
-mod Inductions
 mod TakenLaws
 mod IdLaws
 mod WrittenParts
@@ -20,7 +18,7 @@ mod KnownFields
 mod KnownRecords
 mod PrintedAgain
 pub mod Steps
-pub mod TreeLaws
+pub mod PrimitiveLaws
 pub mod MeansPart
 pub mod Found
 pub mod FoundBranches

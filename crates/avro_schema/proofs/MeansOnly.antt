@@ -1,12 +1,12 @@
 -- What a value means is read of it.
 use Rattle.std.proofs.Common.{ℕ, ◌≤◌, List, arith}
 use Rattle.serde_json.specs.Data.{Data}
-use Rattle.avro_schema.specs.declared.schema.Schema.{Schema}
-use Rattle.avro_schema.specs.declared.schema.Field.{Field}
-use Rattle.avro_schema.specs.Measure.{depth_of_fields, size_of_fields}
+use Rattle.schema_tree.specs.declared.schema.Schema.{Schema}
+use Rattle.schema_tree.specs.declared.schema.Field.{Field}
+use Rattle.schema_tree.specs.Measure.{depth_of_fields, size_of_fields}
 use Rattle.avro_schema.specs.Defined.{Definitions}
 use Rattle.avro_schema.specs.Meaning.{Means, primitive_word, union, primitive_type, record_type, enum_type, fixed_type, array_type, map_type, AreBranches, no_branch, branch, AreFields, no_field, field}
-use Rattle.avro_schema.proofs.TreeLaws.{depth-push, size-push}
+use Rattle.schema_tree.specs.TreeLaws.{depth-push, size-push}
 use Rattle.avro_schema.proofs.Only.{IsRead, AreBranchesRead, AreFieldsRead, primitive_only, use_only}
 use Rattle.avro_schema.proofs.OnlyBranches.{no_branch_only, one_branch_only, union_only}
 use Rattle.avro_schema.proofs.OnlyFields.{no_field_only, one_field_only}

@@ -3,8 +3,8 @@ use Rattle.std.proofs.Common.{◌≡◌, ◌≢◌, ℕ, ◌+◌, false, List, [
 use Rattle.words.specs.Reading.{◌>>=◌}
 use Rattle.serde_json.specs.Data.{Data, null, boolean, number, string, array, object, Members}
 use Rattle.serde_json.specs.Find.{get_member}
-use Rattle.avro_schema.specs.declared.schema.Schema.{Schema}
-use Rattle.avro_schema.specs.declared.schema.Field.{Field}
+use Rattle.schema_tree.specs.declared.schema.Schema.{Schema}
+use Rattle.schema_tree.specs.declared.schema.Field.{Field}
 use Rattle.avro_schema.specs.declared.refusal.SchemaRefusal.{SchemaRefusal}
 use Rattle.avro_schema.specs.declared.refusal.SchemaRefusal.TheVariants.{Form}
 use Rattle.avro_schema.specs.Member.{text_of, or_form, needed, text_at}

@@ -4,7 +4,7 @@ use Rattle.std.specs.Str.{is_utf8}
 use Rattle.words.specs.Reading.{Gives, map_value}
 use Rattle.serde_json.specs.Data.{Data}
 use Rattle.serde_json.specs.Read.{read}
-use Rattle.avro_schema.specs.declared.schema.Schema.{Schema}
+use Rattle.schema_tree.specs.declared.schema.Schema.{Schema}
 use Rattle.avro_schema.specs.declared.refusal.SchemaRefusal.{SchemaRefusal}
 use Rattle.avro_schema.specs.declared.refusal.SchemaRefusal.TheVariants.{NotJson}
 use Rattle.avro_schema.specs.Refusal.{is_memory}

@@ -2,16 +2,17 @@
 use Rattle.std.proofs.Common.{◌≡◌, ℕ, zero, suc, ◌+◌, ◌≤◌, List, ◌++◌, Some, None, Ok, ap, ◌∙◌, arith}
 use Rattle.words.specs.Reading.{map_value}
 use Rattle.serde_json.specs.Data.{Data, string}
-use Rattle.avro_schema.specs.declared.schema.Schema.{Schema}
-use Rattle.avro_schema.specs.declared.schema.Field.{Field}
-use Rattle.avro_schema.specs.Tree.{depth, size}
-use Rattle.avro_schema.specs.Measure.{depth_of_fields, depth_of_branches, size_of_fields, size_of_branches}
+use Rattle.schema_tree.specs.declared.schema.Schema.{Schema}
+use Rattle.schema_tree.specs.declared.schema.Field.{Field}
+use Rattle.schema_tree.specs.Tree.{depth, size}
+use Rattle.schema_tree.specs.Measure.{depth_of_fields, depth_of_branches, size_of_fields, size_of_branches}
 use Rattle.avro_schema.specs.Defined.{Definitions, Seen, known_as, full_name}
 use Rattle.avro_schema.specs.Parts.{schema_below}
 use Rattle.avro_schema.specs.Reading.{Reader, primitive_of, use_of, word_at, fields_at, branches_at, schema_at}
 use Rattle.avro_schema.proofs.PartLaws.{schema_layer}
 use Rattle.avro_schema.proofs.Steps.{count_only, met, read_as}
-use Rattle.avro_schema.proofs.TreeLaws.{IsAlone, alone_primitive}
+use Rattle.schema_tree.specs.TreeLaws.{IsAlone}
+use Rattle.avro_schema.proofs.PrimitiveLaws.{alone_primitive}
 
 -- the schema is read of the value, with room for its levels and its count
 abbrev pub IsRead : List ℕ → Definitions → Data → Schema → Definitions → Type 0

@@ -2,11 +2,11 @@
 use Rattle.std.proofs.Common.{◌≡◌, ◌≢◌, ℕ, ◌+◌, ◌≤◌, List, [], ◌∷◌, ◌++◌, Ok, decimal, append_assoc, append-nil, refl, sym, ap, ◌∙◌, arith}
 use Rattle.words.specs.Reading.{map_value}
 use Rattle.serde_json.specs.Data.{Data, array, Items}
-use Rattle.avro_schema.specs.declared.schema.Schema.{Schema}
-use Rattle.avro_schema.specs.declared.schema.Schema.TheVariants as schemas
+use Rattle.schema_tree.specs.declared.schema.Schema.{Schema}
+use Rattle.schema_tree.specs.declared.schema.Schema.TheVariants as schemas
 use Rattle.avro_schema.specs.Refusal.{under}
-use Rattle.avro_schema.specs.Tree.{depth, size}
-use Rattle.avro_schema.specs.Measure.{size_of_branches}
+use Rattle.schema_tree.specs.Tree.{depth, size}
+use Rattle.schema_tree.specs.Measure.{size_of_branches}
 use Rattle.avro_schema.specs.Member.{values_of}
 use Rattle.avro_schema.specs.Defined.{Definitions, Seen}
 use Rattle.avro_schema.specs.Parts.{schema_below}
@@ -14,7 +14,7 @@ use Rattle.avro_schema.specs.Reading.{Reader, branch_at, branches_at, union_at}
 use Rattle.avro_schema.specs.Meaning.{IsNoUnion}
 use Rattle.avro_schema.proofs.PartLaws.{schema_layer}
 use Rattle.avro_schema.proofs.Steps.{bind_only, count_only, met}
-use Rattle.avro_schema.proofs.TreeLaws.{depth-Union, size-Union, branches_cons}
+use Rattle.schema_tree.specs.TreeLaws.{depth-Union, size-Union, branches_cons}
 use Rattle.avro_schema.proofs.MeansPart.{branch_only}
 use Rattle.avro_schema.proofs.Only.{IsRead, AreBranchesRead, below_only, same_count}
 

@@ -2,17 +2,17 @@
 use Rattle.std.proofs.Common.{◌≡◌, ℕ, ◌+◌, ◌≤◌, false, ℤ, List, [], ◌∷◌, ◌++◌, codes, Option, Some, Ok, decimal, refl, ap, ◌∙◌, arith}
 use Rattle.serde_json.specs.Data.{Data, object, Members}
 use Rattle.serde_json.specs.Find.{get_member}
-use Rattle.avro_schema.specs.declared.schema.Schema.{Schema}
-use Rattle.avro_schema.specs.declared.schema.Field.{Field}
+use Rattle.schema_tree.specs.declared.schema.Schema.{Schema}
+use Rattle.schema_tree.specs.declared.schema.Field.{Field}
 use Rattle.avro_schema.specs.Refusal.{under}
-use Rattle.avro_schema.specs.Tree.{size}
-use Rattle.avro_schema.specs.Measure.{depth_of_fields, size_of_fields}
+use Rattle.schema_tree.specs.Tree.{size}
+use Rattle.schema_tree.specs.Measure.{depth_of_fields, size_of_fields}
 use Rattle.avro_schema.specs.Member.{needed, text_at, id_at}
 use Rattle.avro_schema.specs.Defined.{Definitions}
 use Rattle.avro_schema.specs.Parts.{schema_below}
 use Rattle.avro_schema.specs.Reading.{has_field, new_field_name, field_at, fields_at}
 use Rattle.avro_schema.proofs.Steps.{bind_only, met}
-use Rattle.avro_schema.proofs.TreeLaws.{field_of, depth-push, size-push}
+use Rattle.schema_tree.specs.TreeLaws.{field_of, depth-push, size-push}
 use Rattle.avro_schema.proofs.MeansPart.{new_only, needed_only}
 use Rattle.avro_schema.proofs.Only.{IsRead, AreFieldsRead, below_only}
 

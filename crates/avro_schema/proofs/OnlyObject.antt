@@ -2,13 +2,13 @@
 use Rattle.std.proofs.Common.{◌≡◌, ℕ, ◌+◌, ◌≤◌, ℤ, List, [], codes, Option, Some, None, Result, Ok, ap, ◌∙◌, arith}
 use Rattle.serde_json.specs.Data.{Data, object, Members}
 use Rattle.serde_json.specs.Find.{get_member}
-use Rattle.avro_schema.specs.declared.schema.Schema.{Schema}
-use Rattle.avro_schema.specs.declared.schema.Schema.TheVariants as schemas
-use Rattle.avro_schema.specs.declared.schema.Field.{Field}
+use Rattle.schema_tree.specs.declared.schema.Schema.{Schema}
+use Rattle.schema_tree.specs.declared.schema.Schema.TheVariants as schemas
+use Rattle.schema_tree.specs.declared.schema.Field.{Field}
 use Rattle.avro_schema.specs.declared.refusal.SchemaRefusal.{SchemaRefusal}
 use Rattle.avro_schema.specs.Refusal.{under}
-use Rattle.avro_schema.specs.Tree.{size}
-use Rattle.avro_schema.specs.Measure.{size_of_fields}
+use Rattle.schema_tree.specs.Tree.{size}
+use Rattle.schema_tree.specs.Measure.{size_of_fields}
 use Rattle.avro_schema.specs.Member.{needed, text_at, list_at, fixed_size_at, id_at, is_text}
 use Rattle.avro_schema.specs.Defined.{Definitions, Seen, with_name, namespace_of}
 use Rattle.avro_schema.specs.Parts.{schema_below}
@@ -16,7 +16,8 @@ use Rattle.avro_schema.specs.Reading.{Reader, primitive_of, logical_of, name_at,
 use Rattle.avro_schema.specs.Meaning.{Defines, AreTexts, HasType}
 use Rattle.avro_schema.proofs.PartLaws.{schema_layer}
 use Rattle.avro_schema.proofs.Steps.{bind_only, count_only, met}
-use Rattle.avro_schema.proofs.TreeLaws.{IsAlone, alone_primitive, alone_logical, alone-Fixed, alone-Enum, depth-Rec, size-Rec, depth-Array, size-Array, depth-Map, size-Map}
+use Rattle.schema_tree.specs.TreeLaws.{IsAlone, alone-Fixed, alone-Enum, depth-Rec, size-Rec, depth-Array, size-Array, depth-Map, size-Map}
+use Rattle.avro_schema.proofs.PrimitiveLaws.{alone_primitive, alone_logical}
 use Rattle.avro_schema.proofs.MeansPart.{name_only, needed_only, texts_only}
 use Rattle.avro_schema.proofs.Only.{IsRead, AreFieldsRead, below_only, same_count}
 

@@ -10,14 +10,14 @@ use Rattle.json.proofs.Printed.Tokens.{tokens-print}
 use Rattle.json.proofs.Printed.Trees.{value-json_tokens, ArePrintable-json_tokens}
 use Rattle.serde_json.specs.Read.{read, of_json, max_depth}
 use Rattle.words.specs.Reading.{map_value}
-use Rattle.avro_schema.specs.declared.schema.Schema.{Schema}
+use Rattle.schema_tree.specs.declared.schema.Schema.{Schema}
 use Rattle.avro_schema.specs.declared.refusal.SchemaRefusal.TheVariants.{NotJson}
 use Rattle.avro_schema.specs.Printing.{schema_text}
 use Rattle.avro_schema.specs.Printable.{spelled, IsPrintable}
-use Rattle.avro_schema.specs.Ids.{has_ids}
+use Rattle.schema_tree.specs.Ids.{has_ids}
 use Rattle.avro_schema.specs.Defined.{nothing_seen, is_taken}
 use Rattle.avro_schema.specs.Reading.{schema_of, schema_of_json}
-use Rattle.avro_schema.proofs.Inductions.{every}
+use Rattle.schema_tree.specs.Inductions.{every}
 use Rattle.avro_schema.proofs.Known.{IsKnown}
 use Rattle.avro_schema.proofs.KnownLeaves.{null_known, boolean_known, int_known, long_known, float_known, double_known, raw_known, str_known}
 use Rattle.avro_schema.proofs.KnownNamed.{fixed_known, enum_known}

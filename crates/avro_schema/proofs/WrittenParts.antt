@@ -7,7 +7,7 @@ use Rattle.serde_json.specs.Data.{Data, null, number, string, Members, no_member
 use Rattle.serde_json.specs.Read.{of_members}
 use Rattle.serde_json.specs.Find.{of_integer, get_member}
 use Rattle.words.specs.Reading.{map_value}
-use Rattle.avro_schema.specs.Ids.{is_id}
+use Rattle.schema_tree.specs.Ids.{is_id}
 use Rattle.avro_schema.specs.Printing.{id_member, keyed_member, default_member}
 use Rattle.avro_schema.specs.Member.{text_at, id_at, or_form, is_text}
 use Rattle.avro_schema.proofs.IdLaws.{id_is_number, id_number, id_int}

@@ -1,13 +1,10 @@
 pub mod Refusal
-pub mod Tree
-pub mod Measure
 pub mod Member
 pub mod Defined
 pub mod SeenNames
 pub mod Reading
 pub mod Parts
 pub mod Printing
-pub mod Ids
 pub mod Putting
 pub mod Printable
 pub mod Meaning

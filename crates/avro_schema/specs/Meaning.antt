@@ -5,12 +5,12 @@ use Rattle.serde_json.specs.Data.{Data, string, array, object, Items, Members}
 use Rattle.serde_json.specs.Find.{get_member}
 use Rattle.serde_json.specs.Read.{read}
 use Rattle.std.specs.Str.{is_utf8}
-use Rattle.avro_schema.specs.declared.schema.Schema.{Schema}
-use Rattle.avro_schema.specs.declared.schema.Schema.TheVariants as schemas
-use Rattle.avro_schema.specs.declared.schema.Field.{Field, roll-Field}
+use Rattle.schema_tree.specs.declared.schema.Schema.{Schema}
+use Rattle.schema_tree.specs.declared.schema.Schema.TheVariants as schemas
+use Rattle.schema_tree.specs.declared.schema.Field.{Field, roll-Field}
 use Rattle.avro_schema.specs.Member.{text_of, values_of, text_at, list_at, fixed_size_at, id_at, is_text}
 use Rattle.avro_schema.specs.Defined.{Definitions, known_as, is_taken, with_name, full_name, namespace_of}
-use Rattle.avro_schema.specs.Tree.{depth, size}
+use Rattle.schema_tree.specs.Tree.{depth, size}
 use Rattle.avro_schema.specs.Reading.{primitive_of, logical_of, namespace_at, scope_of, has_field}
 
 -- the object's type is this word

@@ -2,12 +2,12 @@
 use Rattle.std.specs.Prelude.{◌≡◌, ℕ, suc, ◌≤◌, ◌==◌, ◌&&◌, ◌||◌, Bool, true, false, not, List, [], ◌∷◌, nat_le}
 use Rattle.std.specs.List.{list_all, list_any, flat_map}
 use Rattle.std.specs.Str.{bytes_eq}
-use Rattle.avro_schema.specs.declared.schema.Schema.{Schema}
-use Rattle.avro_schema.specs.declared.schema.Schema.TheOpen.{Schema-F, Field-F, Null, Boolean, Int, Long, Float, Double, Raw, Str, Fixed, Enum, Rec, Array, Map, Union}
-use Rattle.avro_schema.specs.declared.schema.Schema.TheFolds.{fold-Schema}
-use Rattle.avro_schema.specs.declared.schema.Logical.{Logical}
-use Rattle.avro_schema.specs.declared.schema.Logical.TheVariants.{Plain, Date, TimeMicros, StampMicros, StampMicrosUtc}
-use Rattle.avro_schema.specs.Tree.{depth, size, largest}
+use Rattle.schema_tree.specs.declared.schema.Schema.{Schema}
+use Rattle.schema_tree.specs.declared.schema.Schema.TheOpen.{Schema-F, Field-F, Null, Boolean, Int, Long, Float, Double, Raw, Str, Fixed, Enum, Rec, Array, Map, Union}
+use Rattle.schema_tree.specs.declared.schema.Schema.TheFolds.{fold-Schema}
+use Rattle.schema_tree.specs.declared.schema.Logical.{Logical}
+use Rattle.schema_tree.specs.declared.schema.Logical.TheVariants.{Plain, Date, TimeMicros, StampMicros, StampMicrosUtc}
+use Rattle.schema_tree.specs.Tree.{depth, size, largest}
 
 -- ---- names. Avro 1.11, "Names"
 

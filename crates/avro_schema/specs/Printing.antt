@@ -4,11 +4,11 @@ use Rattle.std.specs.List.{flat_map}
 use Rattle.std.specs.Fmt.{decimal, signed_decimal}
 use Rattle.json.specs.Token.{Token, begin_object, end_object, begin_array, end_array, key, string, number, boolean, null}
 use Rattle.json.specs.Print.{print}
-use Rattle.avro_schema.specs.declared.schema.Schema.{Schema}
-use Rattle.avro_schema.specs.declared.schema.Schema.TheOpen.{Schema-F, Field-F, Null, Boolean, Int, Long, Float, Double, Raw, Str, Fixed, Enum, Rec, Array, Map, Union}
-use Rattle.avro_schema.specs.declared.schema.Schema.TheFolds.{fold-Schema}
-use Rattle.avro_schema.specs.declared.schema.Logical.{Logical}
-use Rattle.avro_schema.specs.declared.schema.Logical.TheVariants.{Plain, Date, TimeMicros, StampMicros, StampMicrosUtc}
+use Rattle.schema_tree.specs.declared.schema.Schema.{Schema}
+use Rattle.schema_tree.specs.declared.schema.Schema.TheOpen.{Schema-F, Field-F, Null, Boolean, Int, Long, Float, Double, Raw, Str, Fixed, Enum, Rec, Array, Map, Union}
+use Rattle.schema_tree.specs.declared.schema.Schema.TheFolds.{fold-Schema}
+use Rattle.schema_tree.specs.declared.schema.Logical.{Logical}
+use Rattle.schema_tree.specs.declared.schema.Logical.TheVariants.{Plain, Date, TimeMicros, StampMicros, StampMicrosUtc}
 
 -- a schema as it is written, and whether it is the null type, or a union that begins with it
 pub record Written : Type 0 where

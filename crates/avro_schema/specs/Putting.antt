@@ -2,9 +2,9 @@
 use Rattle.std.specs.Prelude.{◌≡◌, List, ◌++◌, map, Result, OnOk}
 use Rattle.json.specs.Token.{Token}
 use Rattle.json.specs.Written as json
-use Rattle.avro_schema.specs.declared.schema.Schema.{Schema}
-use Rattle.avro_schema.specs.declared.schema.Schema.TheFolds.{fold-Field}
-use Rattle.avro_schema.specs.declared.schema.Field.{Field}
+use Rattle.schema_tree.specs.declared.schema.Schema.{Schema}
+use Rattle.schema_tree.specs.declared.schema.Schema.TheFolds.{fold-Field}
+use Rattle.schema_tree.specs.declared.schema.Field.{Field}
 use Rattle.avro_schema.specs.Printing.{Written, written_of, written_field, written, all_tokens}
 
 -- the tokens stand behind those that were there, and nothing else has changed

@@ -8,15 +8,15 @@ use Rattle.words.specs.Reading.{◌>>=◌, map_value}
 use Rattle.serde_json.specs.Data.{Data, null, boolean, number, string, array, object, Members}
 use Rattle.serde_json.specs.Find.{get_member}
 use Rattle.serde_json.specs.Read.{read}
-use Rattle.avro_schema.specs.declared.schema.Schema.{Schema}
-use Rattle.avro_schema.specs.declared.schema.Schema.TheVariants as schemas
-use Rattle.avro_schema.specs.declared.schema.Field.{Field, out-Field, roll-Field}
-use Rattle.avro_schema.specs.declared.schema.Logical.{Logical}
-use Rattle.avro_schema.specs.declared.schema.Logical.TheVariants.{Plain, Date, TimeMicros, StampMicros, StampMicrosUtc}
+use Rattle.schema_tree.specs.declared.schema.Schema.{Schema}
+use Rattle.schema_tree.specs.declared.schema.Schema.TheVariants as schemas
+use Rattle.schema_tree.specs.declared.schema.Field.{Field, out-Field, roll-Field}
+use Rattle.schema_tree.specs.declared.schema.Logical.{Logical}
+use Rattle.schema_tree.specs.declared.schema.Logical.TheVariants.{Plain, Date, TimeMicros, StampMicros, StampMicrosUtc}
 use Rattle.avro_schema.specs.declared.refusal.SchemaRefusal.{SchemaRefusal}
 use Rattle.avro_schema.specs.declared.refusal.SchemaRefusal.TheVariants.{NotJson, Form, Unknown, Nesting}
 use Rattle.avro_schema.specs.Refusal.{under}
-use Rattle.avro_schema.specs.Tree.{depth, size}
+use Rattle.schema_tree.specs.Tree.{depth, size}
 use Rattle.avro_schema.specs.Member.{text_of, values_of, or_form, needed, text_at, list_at, fixed_size_at, id_at, is_text, is_true}
 use Rattle.avro_schema.specs.Defined.{Seen, known_as, is_taken, full_name, namespace_of, begun, defined, nothing_seen}
 

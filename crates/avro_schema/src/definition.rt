@@ -3,7 +3,7 @@
 ghost use Rattle.std.specs.Prelude.{◌≡◌, [], map, option_map, IfOk};
 ghost use Rattle.serde_json.specs.View.{view, members_view};
 ghost use Rattle.std.specs.Fmt.{decimal};
-ghost use Rattle.avro_schema.specs.declared.schema.Schema.TheVariants.{Enum, Rec};
+ghost use Rattle.schema_tree.specs.declared.schema.Schema.TheVariants.{Enum, Rec};
 ghost use Rattle.avro_schema.specs.Defined.{begun};
 ghost use Rattle.avro_schema.specs.Member.{or_form, text_of};
 ghost use Rattle.avro_schema.specs.Parts.{whole};
@@ -14,7 +14,7 @@ ghost use Rattle.words.specs.Reading.{Gives};
 use crate::member::{Members, fixed_size_at, list_at, member, text_at};
 use crate::name::full_name;
 use crate::refusal::{SchemaRefusal, form, form_at, under};
-use crate::schema::{Fields, Name, Names, Schema};
+use schema_tree::{Fields, Name, Names, Schema};
 use crate::seen::Seen;
 use avro_wire::Text;
 use lists::List;

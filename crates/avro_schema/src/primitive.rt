@@ -5,7 +5,7 @@ ghost use Rattle.serde_json.specs.View.{members_view};
 ghost use Rattle.avro_schema.specs.Reading as spec;
 
 use crate::member::{Members, is_text, is_true};
-use crate::schema::{Logical, Schema};
+use schema_tree::{Logical, Schema};
 
 /// The type that the word names. `None`: it names no primitive type.
 pub fn primitive_of(word: &str) -> Option<Schema>

@@ -2,14 +2,14 @@
 
 ghost use Rattle.std.specs.Prelude.{◌≡◌, ◌++◌, ◌∷◌, [], true, codes, map, Ok, IfOk, OnOk};
 ghost use Rattle.json.specs.Token.{begin_object, key};
-ghost use Rattle.avro_schema.specs.declared.schema.Schema.TheVariants.{Fixed, Enum, Rec, Array, Map};
+ghost use Rattle.schema_tree.specs.declared.schema.Schema.TheVariants.{Fixed, Enum, Rec, Array, Map};
 ghost use Rattle.avro_schema.specs.Reading.{moment, schema_of};
 ghost use Rattle.avro_schema.specs.Printable.{IsPrintable};
 ghost use Rattle.avro_schema.specs.Printing.{schema_text, written, text_member, id_member, default_member, keyed_member, list_of, texts_of, logical_type, int_tokens, long_tokens};
-ghost use Rattle.avro_schema.specs.Ids.{is_id, all_true, has_ids, field_has_ids};
+ghost use Rattle.schema_tree.specs.Ids.{is_id, all_true, has_ids, field_has_ids};
 ghost use Rattle.avro_schema.specs.Putting.{Puts, field_written, fields_tokens, branches_tokens};
 
-use crate::schema::{Branches, Field, Fields, Logical, Names, Schema};
+use schema_tree::{Branches, Field, Fields, Logical, Names, Schema};
 use avro_wire::Text;
 use json::Writer;
 use std::alloc::{AllocError, Global};

@@ -8,7 +8,7 @@ ghost use Rattle.avro_schema.specs.Refusal as spec;
 ghost use Rattle.avro_schema.specs.Refusal.{is_memory};
 ghost use Rattle.words.specs.Reading.{Gives};
 
-use crate::schema::Name;
+use schema_tree::Name;
 use avro_wire::Text;
 use std::alloc::{AllocError, AllocFailed, Global};
 

@@ -7,14 +7,14 @@ ghost use Rattle.std.specs.String.{string_cmp};
 ghost use Rattle.avro_schema.specs.Defined.{Definitions, known_as, is_taken, with_name};
 ghost use Rattle.avro_schema.specs.Defined.{begun, defined, nothing_seen};
 ghost use Rattle.avro_schema.specs.Reading.{counted, use_of};
-ghost use Rattle.avro_schema.specs.Tree.{depth, size};
+ghost use Rattle.schema_tree.specs.Tree.{depth, size};
 ghost use Rattle.avro_schema.specs.Refusal.{is_memory};
 ghost use Rattle.words.specs.Reading.{Gives};
 
-use crate::measure::{is_within, take_size};
+use schema_tree::{is_within, take_size};
 use crate::refusal::SchemaRefusal;
-use crate::schema::Schema;
-use crate::weight::take_weight;
+use schema_tree::Schema;
+use schema_tree::take_weight;
 use avro_wire::Text;
 use lists::Copied;
 use std::alloc::{AllocError, Global};
@@ -42,7 +42,7 @@ impl Model for Seen {
     ghost use Rattle.std.specs.Prelude.{◌≤◌};
     ghost use Rattle.std.specs.Coded.{codes};
     ghost use Rattle.avro_schema.specs.Defined as spec;
-    ghost use Rattle.avro_schema.specs.contracts.schema.Schema as schemas;
+    ghost use Rattle.schema_tree.specs.contracts.schema.Schema as schemas;
     ghost use Rattle.avro_schema.specs.SeenNames.{names_of};
 
     ghost Value = { spec.Seen };

@@ -1,7 +1,7 @@
 //! Files, columns and refusals, as the tables of the tests name them.
 
 use avro_container::{Block, Blocks, Container, Meta, write};
-use avro_datum::DatumRefusal;
+use datum_reading::DatumRefusal;
 use avro_schema::SchemaRefusal;
 use avro_wire::{Bytes, Text};
 use limits::Which;

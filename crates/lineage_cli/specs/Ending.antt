@@ -10,8 +10,8 @@ use Rattle.avro_container.specs.declared.refusal.ContainerRefusal.{ContainerRefu
 use Rattle.avro_container.specs.declared.refusal.ContainerRefusal.TheVariants as containers
 use Rattle.avro_schema.specs.declared.refusal.SchemaRefusal.{SchemaRefusal}
 use Rattle.avro_schema.specs.declared.refusal.SchemaRefusal.TheVariants as schemas
-use Rattle.avro_datum.specs.declared.refusal.DatumRefusal.{DatumRefusal}
-use Rattle.avro_datum.specs.declared.refusal.DatumRefusal.TheVariants as datums
+use Rattle.datum_reading.specs.declared.refusal.DatumRefusal.{DatumRefusal}
+use Rattle.datum_reading.specs.declared.refusal.DatumRefusal.TheVariants as datums
 use Rattle.row_file.specs.declared.refusal.RowRefusal.{RowRefusal}
 use Rattle.row_file.specs.declared.refusal.RowRefusal.TheVariants as refusals
 use Rattle.lineage_cli.specs.declared.ending.Ending.{Ending}

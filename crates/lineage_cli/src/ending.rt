@@ -15,7 +15,7 @@ ghost use Rattle.lineage_cli.specs.Run.{IsTold};
 
 use crate::output::write_all;
 use avro_container::ContainerRefusal;
-use avro_datum::DatumRefusal;
+use datum_reading::DatumRefusal;
 use avro_schema::SchemaRefusal;
 use avro_wire::{Bytes, Text};
 use itoa::Buffer;

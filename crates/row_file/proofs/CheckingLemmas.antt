@@ -7,8 +7,8 @@ use Rattle.words.specs.Reading.{◌>>=◌, map_value, value_or, Gives}
 use Rattle.row_types.specs.declared.column.Column.{Column}
 use Rattle.row_types.specs.declared.row.Row.{Row}
 use Rattle.row_types.specs.declared.row.StoredRow.{StoredRow}
-use Rattle.avro_schema.specs.declared.schema.Field.{Field}
-use Rattle.avro_schema.specs.declared.schema.Schema.{Schema}
+use Rattle.schema_tree.specs.declared.schema.Field.{Field}
+use Rattle.schema_tree.specs.declared.schema.Schema.{Schema}
 use Rattle.avro_container.specs.declared.container.Block.{Block}
 use Rattle.avro_container.specs.declared.container.Container.{Container}
 use Rattle.avro_container.proofs.Steps.{ok_is}

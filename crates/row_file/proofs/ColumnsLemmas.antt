@@ -5,7 +5,7 @@ use Rattle.std.specs.declared.option.Option.{Option}
 use Rattle.std.specs.declared.option.Option.TheVariants.{None, Some}
 use Rattle.std.proofs.lemmas.Bool.{cases_Bool}
 use Rattle.std.proofs.lemmas.List.{drop_more, drop_all}
-use Rattle.avro_schema.specs.declared.schema.Field.{Field, out-Field}
+use Rattle.schema_tree.specs.declared.schema.Field.{Field, out-Field}
 use Rattle.row_types.specs.declared.column.Column.{Column}
 use Rattle.row_types.specs.declared.columns.ColumnsRefusal.{ColumnsRefusal}
 use Rattle.row_types.specs.declared.columns.ColumnsRefusal.TheVariants.{Count, Id, Name}

@@ -7,16 +7,16 @@ use Rattle.words.specs.Reading.{◌>>=◌, map_value}
 use Rattle.row_types.specs.declared.cell.Cell.{Cell}
 use Rattle.row_types.specs.declared.cell.Cell.TheVariants as cells
 use Rattle.avro_wire.specs.Number.{Bounds, int}
-use Rattle.avro_schema.specs.declared.schema.Schema.{Schema, out-Schema}
-use Rattle.avro_schema.specs.declared.schema.Schema.TheOpen as types
-use Rattle.avro_schema.specs.declared.schema.Schema.TheVariants as schemas
-use Rattle.avro_schema.specs.declared.schema.Schema.TheViews.{roll-Schema, roll-out-Schema}
-use Rattle.avro_datum.specs.declared.cursor.Cursor.{Cursor}
-use Rattle.avro_datum.specs.declared.datum.Datum.TheVariants as datums
-use Rattle.avro_datum.specs.declared.datum.Datum.{Datum, out-Datum}
-use Rattle.avro_datum.specs.declared.refusal.DatumRefusal.{DatumRefusal}
-use Rattle.avro_datum.specs.Reading.{flag_at, number_from, num_at, choice_at, within, branch_at, datum_at}
-use Rattle.avro_datum.proofs.Layers.{reads-Null, reads-Boolean, reads-Int, reads-Long, reads-Raw, reads-Str, reads-Union}
+use Rattle.schema_tree.specs.declared.schema.Schema.{Schema, out-Schema}
+use Rattle.schema_tree.specs.declared.schema.Schema.TheOpen as types
+use Rattle.schema_tree.specs.declared.schema.Schema.TheVariants as schemas
+use Rattle.schema_tree.specs.declared.schema.Schema.TheViews.{roll-Schema, roll-out-Schema}
+use Rattle.datum_reading.specs.declared.cursor.Cursor.{Cursor}
+use Rattle.datum_tree.specs.declared.datum.Datum.TheVariants as datums
+use Rattle.datum_tree.specs.declared.datum.Datum.{Datum, out-Datum}
+use Rattle.datum_reading.specs.declared.refusal.DatumRefusal.{DatumRefusal}
+use Rattle.datum_reading.specs.Reading.{flag_at, number_from, num_at, choice_at, within, branch_at, datum_at}
+use Rattle.datum_reading.specs.Layers.{reads-Null, reads-Boolean, reads-Int, reads-Long, reads-Raw, reads-Str, reads-Union}
 use Rattle.row_file.specs.declared.form.Form.{Form}
 use Rattle.row_file.specs.declared.kind.Primitive.{Primitive}
 use Rattle.row_file.specs.Kind.{Level, nullable_level, of_branches, beside_null, is_null, primitive_of}

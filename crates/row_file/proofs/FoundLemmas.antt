@@ -3,8 +3,8 @@ use Rattle.std.proofs.Common.{◌≡◌, ℕ, suc, ◌+◌, List, [], ◌∷◌,
 use Rattle.std.specs.Prelude.{ℤ, Option, slice_get}
 use Rattle.std.proofs.lemmas.Bool.{cases_Bool, false≢true}
 use Rattle.std.proofs.lemmas.Bool.Decides.{Decides-int_eq}
-use Rattle.avro_schema.specs.declared.schema.Field.{Field, out-Field}
-use Rattle.avro_schema.specs.declared.schema.Schema.{Schema}
+use Rattle.schema_tree.specs.declared.schema.Field.{Field, out-Field}
+use Rattle.schema_tree.specs.declared.schema.Schema.{Schema}
 use Rattle.row_file.specs.Field.{Found, is_this, find_from, find}
 
 -- a field stands at the place, and has the id and the schema

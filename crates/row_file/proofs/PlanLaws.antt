@@ -13,9 +13,9 @@ use Rattle.row_types.specs.declared.column.Kind.{Kind}
 use Rattle.row_types.specs.declared.column.Kind.TheVariants as kinds
 use Rattle.row_types.specs.declared.row.StoredRow.{StoredRow}
 use Rattle.row_types.specs.Columns.{IsColumns, largest_id}
-use Rattle.avro_schema.specs.declared.schema.Schema.{Schema, out-Schema}
-use Rattle.avro_schema.specs.declared.schema.Field.{Field, out-Field}
-use Rattle.avro_datum.specs.declared.datum.Datum.{Datum}
+use Rattle.schema_tree.specs.declared.schema.Schema.{Schema, out-Schema}
+use Rattle.schema_tree.specs.declared.schema.Field.{Field, out-Field}
+use Rattle.datum_tree.specs.declared.datum.Datum.{Datum}
 use Rattle.row_file.specs.declared.form.Form.{Form}
 use Rattle.row_file.specs.declared.kind.Primitive.{Primitive}
 use Rattle.row_file.specs.declared.plan.Step.{Step}

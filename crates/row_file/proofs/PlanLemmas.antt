@@ -2,7 +2,7 @@
 use Rattle.std.proofs.Common.{◌≡◌, ℕ, ◌+◌, ◌<◌, ◌≤◌, List, length, get_or, drop, refl, sym, ◌∙◌}
 use Rattle.std.proofs.lemmas.List.{drop_more, drop_all}
 use Rattle.row_types.specs.declared.column.Column.{Column}
-use Rattle.avro_schema.specs.declared.schema.Field.{Field}
+use Rattle.schema_tree.specs.declared.schema.Field.{Field}
 use Rattle.row_file.specs.declared.plan.Step.{Step}
 use Rattle.row_file.specs.declared.plan.Target.TheVariants as targets
 use Rattle.row_file.specs.Planning.{aims_from, planned, all_planned}

@@ -9,16 +9,16 @@ use Rattle.words.specs.Reading.{map_value, Gives, never}
 use Rattle.row_types.specs.declared.cell.Cell.TheVariants as cells
 use Rattle.row_types.specs.declared.column.Column.{Column}
 use Rattle.row_types.specs.declared.row.StoredRow.{StoredRow}
-use Rattle.avro_schema.specs.declared.schema.Field.{Field}
-use Rattle.avro_schema.specs.declared.schema.Schema.{Schema}
-use Rattle.avro_schema.specs.declared.schema.Schema.TheVariants as schemas
-use Rattle.avro_datum.specs.declared.cursor.Cursor.{Cursor}
-use Rattle.avro_datum.specs.declared.datum.Datum.{Datum}
-use Rattle.avro_datum.specs.declared.datum.Datum.TheVariants as datums
-use Rattle.avro_datum.specs.declared.refusal.DatumRefusal.{DatumRefusal}
-use Rattle.avro_datum.specs.Reading.{fields_at, datum_at}
-use Rattle.avro_datum.specs.Readers.{readers_of, passed}
-use Rattle.avro_datum.proofs.Layers.{reads-Rec}
+use Rattle.schema_tree.specs.declared.schema.Field.{Field}
+use Rattle.schema_tree.specs.declared.schema.Schema.{Schema}
+use Rattle.schema_tree.specs.declared.schema.Schema.TheVariants as schemas
+use Rattle.datum_reading.specs.declared.cursor.Cursor.{Cursor}
+use Rattle.datum_tree.specs.declared.datum.Datum.{Datum}
+use Rattle.datum_tree.specs.declared.datum.Datum.TheVariants as datums
+use Rattle.datum_reading.specs.declared.refusal.DatumRefusal.{DatumRefusal}
+use Rattle.datum_reading.specs.Reading.{fields_at, datum_at}
+use Rattle.datum_reading.specs.Readers.{readers_of, passed}
+use Rattle.datum_reading.specs.Layers.{reads-Rec}
 use Rattle.row_file.specs.declared.cell.CellRef.{CellRef}
 use Rattle.row_file.specs.declared.cell.CellRef.TheVariants as refs
 use Rattle.row_file.specs.declared.refusal.RowRefusal.{RowRefusal}

@@ -6,14 +6,14 @@ use Rattle.std.proofs.lemmas.Option.{slice_get-get_or}
 use Rattle.row_types.specs.declared.cell.Cell.{Cell}
 use Rattle.row_types.specs.declared.column.Column.{Column}
 use Rattle.row_types.specs.declared.row.StoredRow.{StoredRow}
-use Rattle.avro_schema.specs.declared.schema.Schema.{Schema}
-use Rattle.avro_schema.specs.declared.schema.Field.{Field}
-use Rattle.avro_datum.specs.declared.cursor.Cursor.{Cursor}
-use Rattle.avro_datum.specs.declared.datum.Datum.{Datum}
-use Rattle.avro_datum.specs.declared.refusal.DatumRefusal.{DatumRefusal}
-use Rattle.avro_datum.specs.Reading.{fields_at, datum_at}
-use Rattle.avro_datum.specs.Readers.{readers_of}
-use Rattle.avro_datum.proofs.FieldSteps.{field_fails, fields_on, fields_end}
+use Rattle.schema_tree.specs.declared.schema.Schema.{Schema}
+use Rattle.schema_tree.specs.declared.schema.Field.{Field}
+use Rattle.datum_reading.specs.declared.cursor.Cursor.{Cursor}
+use Rattle.datum_tree.specs.declared.datum.Datum.{Datum}
+use Rattle.datum_reading.specs.declared.refusal.DatumRefusal.{DatumRefusal}
+use Rattle.datum_reading.specs.Reading.{fields_at, datum_at}
+use Rattle.datum_reading.specs.Readers.{readers_of}
+use Rattle.datum_reading.specs.FieldSteps.{field_fails, fields_on, fields_end}
 use Rattle.row_file.specs.declared.form.Form.{Form}
 use Rattle.row_file.specs.declared.plan.Step.{Step}
 use Rattle.row_file.specs.declared.plan.Step.TheVariants.{Skip, Take}

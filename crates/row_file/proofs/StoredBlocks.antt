@@ -6,9 +6,9 @@ use Rattle.words.specs.Reading.{◌>>=◌, map_value, repeated}
 use Rattle.row_types.specs.declared.column.Column.{Column}
 use Rattle.row_types.specs.declared.row.StoredRow.{StoredRow}
 use Rattle.avro_wire.specs.Blocks.{SpellsItems}
-use Rattle.avro_schema.specs.declared.schema.Schema.{Schema}
-use Rattle.avro_datum.proofs.Parts.{Stand, Took, stand_first, stand_second, took_then, took_nothing}
-use Rattle.avro_datum.proofs.Results.{value_ok}
+use Rattle.schema_tree.specs.declared.schema.Schema.{Schema}
+use Rattle.words.specs.Parts.{Stand, Took, stand_first, stand_second, took_then, took_nothing}
+use Rattle.words.specs.Steps.{value_ok}
 use Rattle.avro_container.specs.declared.container.Block.{Block}
 use Rattle.avro_container.specs.Format.{SpellsBlocks}
 use Rattle.avro_container.proofs.Steps.{bind_then, test_passed, ok_is}

@@ -9,7 +9,7 @@ use Rattle.words.specs.Reading.{map_refusal}
 use Rattle.row_types.specs.declared.column.Column.{Column}
 use Rattle.row_types.specs.declared.row.Row.{Row}
 use Rattle.row_types.specs.declared.row.StoredRow.{StoredRow}
-use Rattle.avro_schema.specs.declared.schema.Schema.{Schema}
+use Rattle.schema_tree.specs.declared.schema.Schema.{Schema}
 use Rattle.avro_schema.specs.Meaning.{IsSchemaText}
 use Rattle.avro_schema.specs.Reading.{schema_of}
 use Rattle.avro_schema.proofs.MeansText.{schema_found, schema_only}

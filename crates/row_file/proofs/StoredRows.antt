@@ -4,14 +4,14 @@ use Rattle.words.specs.Reading.{◌>>=◌, map_refusal}
 use Rattle.row_types.specs.declared.cell.Cell.{Cell}
 use Rattle.row_types.specs.declared.column.Column.{Column}
 use Rattle.row_types.specs.declared.row.StoredRow.{StoredRow}
-use Rattle.avro_schema.specs.declared.schema.Schema.{Schema}
-use Rattle.avro_datum.specs.declared.cursor.Cursor.{Cursor}
-use Rattle.avro_datum.specs.declared.datum.Datum.{Datum}
-use Rattle.avro_datum.specs.Value.{items_in}
-use Rattle.avro_datum.specs.Reading.{datum_at}
-use Rattle.avro_datum.proofs.Parts.{Stand, Took}
-use Rattle.avro_datum.proofs.Agreeing.{Passes}
-use Rattle.avro_datum.proofs.SpelledDatum.{agrees_datum}
+use Rattle.schema_tree.specs.declared.schema.Schema.{Schema}
+use Rattle.datum_reading.specs.declared.cursor.Cursor.{Cursor}
+use Rattle.datum_tree.specs.declared.datum.Datum.{Datum}
+use Rattle.datum_tree.specs.Value.{items_in}
+use Rattle.datum_reading.specs.Reading.{datum_at}
+use Rattle.words.specs.Parts.{Stand, Took}
+use Rattle.datum_reading.specs.Agreeing.{Passes}
+use Rattle.datum_reading.proofs.SpelledDatum.{agrees_datum}
 use Rattle.avro_container.proofs.Steps.{bind_then, map_ok, test_failed, ok_is}
 use Rattle.row_file.specs.Refusal.{datum_refusal}
 use Rattle.row_file.specs.Field.{fields_of}

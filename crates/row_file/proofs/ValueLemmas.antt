@@ -3,7 +3,7 @@ use Rattle.std.proofs.Common.{◌≡◌, ℕ, ◌+◌, ◌<◌, ◌≤◌, List,
 use Rattle.std.proofs.lemmas.List.{drop_more, drop_all, append-nil}
 use Rattle.row_types.specs.declared.cell.Cell.{Cell}
 use Rattle.row_types.specs.declared.column.Column.{Column}
-use Rattle.avro_datum.specs.declared.datum.Datum.{Datum}
+use Rattle.datum_tree.specs.declared.datum.Datum.{Datum}
 use Rattle.row_file.specs.Writing.{cell_datum, optional_datum, cell_data}
 
 -- one cell's value more, and those of the cells behind it are left

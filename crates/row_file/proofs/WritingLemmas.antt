@@ -10,11 +10,11 @@ use Rattle.row_types.specs.declared.column.Column.{Column}
 use Rattle.row_types.specs.declared.row.StoredRow.{StoredRow}
 use Rattle.row_types.specs.Columns.{IsColumns}
 use Rattle.row_types.specs.Fits.{fits_row}
-use Rattle.avro_schema.specs.declared.schema.Schema.{Schema}
-use Rattle.avro_datum.specs.declared.datum.Datum.{Datum}
-use Rattle.avro_datum.specs.Fits.{fits}
-use Rattle.avro_datum.specs.Canonical.{canonical}
-use Rattle.avro_datum.specs.Spelling.{IsEncoding}
+use Rattle.schema_tree.specs.declared.schema.Schema.{Schema}
+use Rattle.datum_tree.specs.declared.datum.Datum.{Datum}
+use Rattle.datum_tree.specs.Fits.{fits}
+use Rattle.datum_writing.specs.Canonical.{canonical}
+use Rattle.datum_tree.specs.Spelling.{IsEncoding}
 use Rattle.avro_schema.specs.Printable.{IsPrintable}
 use Rattle.avro_schema.specs.Printing.{schema_text}
 use Rattle.avro_schema.specs.Reading.{schema_of}

@@ -10,8 +10,8 @@ use Rattle.row_types.specs.declared.row.StoredRow.{StoredRow}
 use Rattle.row_types.specs.Columns.{IsColumns}
 use Rattle.row_types.specs.Fits.{fits_row}
 use Rattle.avro_wire.specs.Blocks.{SpellsItems}
-use Rattle.avro_datum.specs.Spelling.{IsEncoding}
-use Rattle.avro_datum.specs.Canonical.{canonical}
+use Rattle.datum_tree.specs.Spelling.{IsEncoding}
+use Rattle.datum_writing.specs.Canonical.{canonical}
 use Rattle.avro_container.specs.declared.container.Block.{Block}
 use Rattle.avro_container.specs.Writing.{IsWritable}
 use Rattle.row_file.specs.Stored.{StoresRow, StoresBlock, StoresBlocks}

@@ -8,20 +8,20 @@ use Rattle.row_types.specs.declared.column.Kind.{Kind}
 use Rattle.row_types.specs.declared.column.Kind.TheVariants as kinds
 use Rattle.row_types.specs.declared.row.StoredRow.{StoredRow}
 use Rattle.row_types.specs.Fits.{is_long, has_flags, has_number, has_texts, has_bytes, fits as cell_fits, fits_row}
-use Rattle.avro_schema.specs.declared.schema.Schema.{Schema, roll-Schema}
-use Rattle.avro_schema.specs.declared.schema.Schema.TheOpen as layers
-use Rattle.avro_schema.specs.declared.schema.Schema.TheOpen.{Schema-F}
-use Rattle.avro_schema.specs.declared.schema.Schema.TheVariants as schemas
-use Rattle.avro_schema.specs.declared.schema.Schema.TheFolds.{map-Schema, fold-roll-Schema, fold_out-Field}
-use Rattle.avro_schema.specs.declared.schema.Field.{Field, out-Field}
-use Rattle.avro_schema.specs.declared.schema.Logical.TheVariants.{Plain}
-use Rattle.avro_datum.specs.declared.datum.Datum.{Datum, out-Datum}
-use Rattle.avro_datum.specs.declared.datum.Datum.TheOpen as values
-use Rattle.avro_datum.specs.declared.datum.Datum.TheVariants as datums
-use Rattle.avro_datum.specs.Value.{Level, items_in, most_items}
-use Rattle.avro_datum.specs.Fits.{Test, fits_each, fits_level, fits_of, field_test, fits_schema, field_fits, fits}
-use Rattle.avro_datum.proofs.Counts.{counts-Null, counts-Flag, counts-Num, counts-Raw, counts-Str, counts-Branch, counts-Rec}
-use Rattle.avro_datum.proofs.Sums.{each, each_nil, each_cons}
+use Rattle.schema_tree.specs.declared.schema.Schema.{Schema, roll-Schema}
+use Rattle.schema_tree.specs.declared.schema.Schema.TheOpen as layers
+use Rattle.schema_tree.specs.declared.schema.Schema.TheOpen.{Schema-F}
+use Rattle.schema_tree.specs.declared.schema.Schema.TheVariants as schemas
+use Rattle.schema_tree.specs.declared.schema.Schema.TheFolds.{map-Schema, fold-roll-Schema, fold_out-Field}
+use Rattle.schema_tree.specs.declared.schema.Field.{Field, out-Field}
+use Rattle.schema_tree.specs.declared.schema.Logical.TheVariants.{Plain}
+use Rattle.datum_tree.specs.declared.datum.Datum.{Datum, out-Datum}
+use Rattle.datum_tree.specs.declared.datum.Datum.TheOpen as values
+use Rattle.datum_tree.specs.declared.datum.Datum.TheVariants as datums
+use Rattle.datum_tree.specs.Value.{Level, items_in, most_items}
+use Rattle.datum_tree.specs.Fits.{Test, fits_each, fits_level, fits_of, field_test, fits_schema, field_fits, fits}
+use Rattle.datum_tree.specs.Counts.{counts-Null, counts-Flag, counts-Num, counts-Raw, counts-Str, counts-Branch, counts-Rec}
+use Rattle.datum_tree.specs.Sums.{each, each_nil, each_cons}
 use Rattle.row_file.specs.Field.{row_id_field, last_updated_field}
 use Rattle.row_file.specs.Writing.{row_id_name, last_updated_name, field_of, written_type, optional_type, file_schema, column_field, lineage_fields, are_plain_names, cell_datum, optional_datum, cell_data, number_datum, lineage_data, row_datum}
 use Rattle.row_file.proofs.WrittenSchema.{written_level, rolls_written}

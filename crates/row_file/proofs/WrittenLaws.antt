@@ -11,9 +11,9 @@ use Rattle.avro_schema.specs.Printing.{schema_text}
 use Rattle.avro_schema.specs.Printable.{IsPrintable}
 use Rattle.avro_schema.specs.Reading.{schema_of}
 use Rattle.avro_schema.proofs.MeansText.{schema_found}
-use Rattle.avro_datum.specs.Spelling.{IsEncoding}
-use Rattle.avro_datum.specs.Canonical.{canonical}
-use Rattle.avro_datum.specs.Fits.{fits}
+use Rattle.datum_tree.specs.Spelling.{IsEncoding}
+use Rattle.datum_writing.specs.Canonical.{canonical}
+use Rattle.datum_tree.specs.Fits.{fits}
 use Rattle.avro_container.specs.Format.{IsContainer}
 use Rattle.avro_container.specs.Writing.{IsWritable}
 use Rattle.row_file.specs.Stored.{StoresRows}

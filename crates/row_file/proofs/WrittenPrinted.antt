@@ -8,16 +8,16 @@ use Rattle.row_types.specs.declared.column.Column.{Column}
 use Rattle.row_types.specs.declared.column.Kind.{Kind}
 use Rattle.row_types.specs.declared.column.Kind.TheVariants as kinds
 use Rattle.row_types.specs.Columns.{IsColumns}
-use Rattle.avro_schema.specs.declared.schema.Schema.{Schema, roll-Schema}
-use Rattle.avro_schema.specs.declared.schema.Schema.TheOpen as layers
-use Rattle.avro_schema.specs.declared.schema.Schema.TheOpen.{Schema-F, Field-F}
-use Rattle.avro_schema.specs.declared.schema.Schema.TheVariants as schemas
-use Rattle.avro_schema.specs.declared.schema.Schema.TheFolds.{fold-Schema, fold-Field, map-Schema, fold-roll-Schema, fold_out-Field}
-use Rattle.avro_schema.specs.declared.schema.Field.{Field, out-Field}
-use Rattle.avro_schema.specs.Tree.{depth, depth_of, size, size_of, number_of_field}
-use Rattle.avro_schema.specs.Measure.{depth_of_fields, size_of_fields}
+use Rattle.schema_tree.specs.declared.schema.Schema.{Schema, roll-Schema}
+use Rattle.schema_tree.specs.declared.schema.Schema.TheOpen as layers
+use Rattle.schema_tree.specs.declared.schema.Schema.TheOpen.{Schema-F, Field-F}
+use Rattle.schema_tree.specs.declared.schema.Schema.TheVariants as schemas
+use Rattle.schema_tree.specs.declared.schema.Schema.TheFolds.{fold-Schema, fold-Field, map-Schema, fold-roll-Schema, fold_out-Field}
+use Rattle.schema_tree.specs.declared.schema.Field.{Field, out-Field}
+use Rattle.schema_tree.specs.Tree.{depth, depth_of, size, size_of, number_of_field}
+use Rattle.schema_tree.specs.Measure.{depth_of_fields, size_of_fields}
 use Rattle.avro_schema.specs.Printable.{Spelled, SpelledField, primitive, spelled, spelled_of, spelled_field, schemas_of, levels_of, field_names, field_levels, is_avro_name, are_distinct, IsPrintable}
-use Rattle.avro_schema.proofs.TreeLaws.{depth-Rec, size-Rec}
+use Rattle.schema_tree.specs.TreeLaws.{depth-Rec, size-Rec}
 use Rattle.row_file.specs.Writing.{written_type, optional_type, column_field, lineage_fields, are_plain_names, field_name, file_schema}
 use Rattle.row_file.proofs.WrittenSchema.{written_level, rolls_written}
 use Rattle.row_file.proofs.WrittenNames.{written_names, are_named}

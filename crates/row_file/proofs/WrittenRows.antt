@@ -10,11 +10,11 @@ use Rattle.row_types.specs.declared.column.Column.{Column}
 use Rattle.row_types.specs.declared.row.StoredRow.{StoredRow}
 use Rattle.row_types.specs.Columns.{IsColumns}
 use Rattle.row_types.specs.Fits.{fits as cell_fits, fits_row}
-use Rattle.avro_schema.specs.declared.schema.Field.{Field, out-Field}
-use Rattle.avro_datum.specs.declared.datum.Datum.{Datum, out-Datum, roll-Datum, out-roll-Datum}
-use Rattle.avro_datum.specs.declared.datum.Datum.TheOpen as layers
-use Rattle.avro_datum.specs.declared.datum.Datum.TheVariants as datums
-use Rattle.avro_datum.specs.Value.{Level}
+use Rattle.schema_tree.specs.declared.schema.Field.{Field, out-Field}
+use Rattle.datum_tree.specs.declared.datum.Datum.{Datum, out-Datum, roll-Datum, out-roll-Datum}
+use Rattle.datum_tree.specs.declared.datum.Datum.TheOpen as layers
+use Rattle.datum_tree.specs.declared.datum.Datum.TheVariants as datums
+use Rattle.datum_tree.specs.Value.{Level}
 use Rattle.row_file.specs.Field.{is_this, find_from, fields_of, row_id_field, last_updated_field}
 use Rattle.row_file.specs.Row.{plain_cell, cell_of_level, cell_of, values_of_level, values_of, cell_at, cell_with, number_of, stored_row, is_null}
 use Rattle.row_file.specs.Stored.{HasNoNull}

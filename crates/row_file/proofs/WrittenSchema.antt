@@ -11,11 +11,11 @@ use Rattle.row_types.specs.declared.column.Column.{Column}
 use Rattle.row_types.specs.declared.column.Kind.{Kind}
 use Rattle.row_types.specs.declared.column.Kind.TheVariants as kinds
 use Rattle.row_types.specs.Columns.{IsColumns}
-use Rattle.avro_schema.specs.declared.schema.Schema.{Schema, out-Schema, roll-Schema, out-roll-Schema}
-use Rattle.avro_schema.specs.declared.schema.Schema.TheOpen as layers
-use Rattle.avro_schema.specs.declared.schema.Schema.TheVariants as schemas
-use Rattle.avro_schema.specs.declared.schema.Field.{Field, out-Field}
-use Rattle.avro_schema.specs.declared.schema.Logical.TheVariants.{Plain, Date, TimeMicros, StampMicros, StampMicrosUtc}
+use Rattle.schema_tree.specs.declared.schema.Schema.{Schema, out-Schema, roll-Schema, out-roll-Schema}
+use Rattle.schema_tree.specs.declared.schema.Schema.TheOpen as layers
+use Rattle.schema_tree.specs.declared.schema.Schema.TheVariants as schemas
+use Rattle.schema_tree.specs.declared.schema.Field.{Field, out-Field}
+use Rattle.schema_tree.specs.declared.schema.Logical.TheVariants.{Plain, Date, TimeMicros, StampMicros, StampMicrosUtc}
 use Rattle.row_file.specs.Kind.{Level, is_null, nullable_level, beside_null, holds, is_allowed_as, is_allowed}
 use Rattle.row_file.specs.Field.{Found, is_this, find_from, find, fields_of, fields_of_level, row_id_field, last_updated_field}
 use Rattle.row_file.specs.Stored.{IsThere, HoldsLongs, AreReadable}

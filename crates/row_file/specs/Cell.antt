@@ -5,12 +5,12 @@ use Rattle.words.specs.Reading.{◌>>=◌, map_value}
 use Rattle.row_types.specs.declared.cell.Cell.{Cell}
 use Rattle.row_types.specs.declared.cell.Cell.TheVariants as cells
 use Rattle.avro_wire.specs.Number.{long, int}
-use Rattle.avro_schema.specs.declared.schema.Schema.{Schema, out-Schema}
-use Rattle.avro_schema.specs.declared.schema.Schema.TheOpen as types
-use Rattle.avro_datum.specs.declared.cursor.Cursor.{Cursor}
-use Rattle.avro_datum.specs.declared.datum.Datum.{Datum}
-use Rattle.avro_datum.specs.declared.refusal.DatumRefusal.{DatumRefusal}
-use Rattle.avro_datum.specs.Reading.{flag_at, num_at, sized_at, text_at, choice_at, datum_at}
+use Rattle.schema_tree.specs.declared.schema.Schema.{Schema, out-Schema}
+use Rattle.schema_tree.specs.declared.schema.Schema.TheOpen as types
+use Rattle.datum_reading.specs.declared.cursor.Cursor.{Cursor}
+use Rattle.datum_tree.specs.declared.datum.Datum.{Datum}
+use Rattle.datum_reading.specs.declared.refusal.DatumRefusal.{DatumRefusal}
+use Rattle.datum_reading.specs.Reading.{flag_at, num_at, sized_at, text_at, choice_at, datum_at}
 use Rattle.row_file.specs.declared.cell.CellRef.{CellRef}
 use Rattle.row_file.specs.declared.cell.CellRef.TheVariants as refs
 use Rattle.row_file.specs.declared.form.Form.{Form}

@@ -5,8 +5,8 @@ use Rattle.words.specs.Reading.{◌>>=◌, map_value}
 use Rattle.row_types.specs.declared.column.Column.{Column}
 use Rattle.row_types.specs.declared.column.Kind.{Kind}
 use Rattle.row_types.specs.Columns.{first_fault, has_wrong_id, has_wrong_name, most_columns}
-use Rattle.avro_schema.specs.declared.schema.Field.{Field, out-Field}
-use Rattle.avro_schema.specs.declared.schema.Schema.{out-Schema}
+use Rattle.schema_tree.specs.declared.schema.Field.{Field, out-Field}
+use Rattle.schema_tree.specs.declared.schema.Schema.{out-Schema}
 use Rattle.row_file.specs.declared.refusal.RowRefusal.{RowRefusal}
 use Rattle.row_file.specs.declared.refusal.RowRefusal.TheVariants.{Kind as WrongKind}
 use Rattle.row_file.specs.Kind.{Nullable, nullable, kind_of}

@@ -6,9 +6,9 @@ use Rattle.words.specs.Reading.{◌>>=◌}
 use Rattle.row_types.specs.declared.column.Column.{Column}
 use Rattle.row_types.specs.declared.column.Kind.{Kind}
 use Rattle.row_types.specs.declared.column.Kind.TheVariants as kinds
-use Rattle.avro_schema.specs.declared.schema.Schema.{Schema, out-Schema}
-use Rattle.avro_schema.specs.declared.schema.Schema.TheOpen.{Rec}
-use Rattle.avro_schema.specs.declared.schema.Field.{Field, out-Field}
+use Rattle.schema_tree.specs.declared.schema.Schema.{Schema, out-Schema}
+use Rattle.schema_tree.specs.declared.schema.Schema.TheOpen.{Rec}
+use Rattle.schema_tree.specs.declared.schema.Field.{Field, out-Field}
 use Rattle.row_file.specs.declared.refusal.RowRefusal.{RowRefusal}
 use Rattle.row_file.specs.declared.refusal.RowRefusal.TheVariants.{MissingColumn, Kind as WrongKind}
 use Rattle.row_file.specs.Kind.{Level, is_allowed}

@@ -7,9 +7,9 @@ use Rattle.row_types.specs.declared.column.Column.{Column}
 use Rattle.row_types.specs.declared.row.Row.{Row}
 use Rattle.row_types.specs.declared.row.StoredRow.{StoredRow}
 use Rattle.limits.specs.declared.which.Which.TheVariants.{FileRows}
-use Rattle.avro_schema.specs.declared.schema.Schema.{Schema}
+use Rattle.schema_tree.specs.declared.schema.Schema.{Schema}
 use Rattle.avro_schema.specs.Reading.{schema_of}
-use Rattle.avro_datum.specs.Reading.{datum_at}
+use Rattle.datum_reading.specs.Reading.{datum_at}
 use Rattle.avro_container.specs.declared.container.Block.{Block}
 use Rattle.avro_container.specs.declared.container.Container.{Container}
 use Rattle.avro_container.specs.Header.{schema_key, bound_to}

@@ -4,11 +4,11 @@ use Rattle.words.specs.Reading.{map_value}
 use Rattle.row_types.specs.declared.cell.Cell.{Cell}
 use Rattle.row_types.specs.declared.column.Column.{Column}
 use Rattle.row_types.specs.declared.row.StoredRow.{StoredRow}
-use Rattle.avro_schema.specs.declared.schema.Field.{Field, out-Field}
-use Rattle.avro_schema.specs.declared.schema.Schema.{Schema}
-use Rattle.avro_datum.specs.declared.cursor.Cursor.{Cursor}
-use Rattle.avro_datum.specs.declared.datum.Datum.{Datum}
-use Rattle.avro_datum.specs.declared.refusal.DatumRefusal.{DatumRefusal}
+use Rattle.schema_tree.specs.declared.schema.Field.{Field, out-Field}
+use Rattle.schema_tree.specs.declared.schema.Schema.{Schema}
+use Rattle.datum_reading.specs.declared.cursor.Cursor.{Cursor}
+use Rattle.datum_tree.specs.declared.datum.Datum.{Datum}
+use Rattle.datum_reading.specs.declared.refusal.DatumRefusal.{DatumRefusal}
 use Rattle.row_file.specs.declared.plan.Step.{Step}
 use Rattle.row_file.specs.declared.plan.Step.TheVariants.{Skip, Take}
 use Rattle.row_file.specs.declared.plan.Target.{Target}

@@ -1,7 +1,7 @@
 -- How a plan is made: for each column, and then for each lineage column, the step of its field.
 use Rattle.std.specs.Prelude.{ℕ, ◌+◌, ℤ, List, [], ◌∷◌, set, Option, Some, None}
 use Rattle.row_types.specs.declared.column.Column.{Column}
-use Rattle.avro_schema.specs.declared.schema.Field.{Field}
+use Rattle.schema_tree.specs.declared.schema.Field.{Field}
 use Rattle.row_file.specs.declared.form.Form.{Form}
 use Rattle.row_file.specs.declared.plan.Step.{Step}
 use Rattle.row_file.specs.declared.plan.Step.TheVariants.{Take}

@@ -7,10 +7,10 @@ use Rattle.row_types.specs.declared.cell.Cell.TheVariants as cells
 use Rattle.row_types.specs.declared.column.Column.{Column}
 use Rattle.row_types.specs.declared.row.Row.{Row}
 use Rattle.row_types.specs.declared.row.StoredRow.{StoredRow}
-use Rattle.avro_schema.specs.declared.schema.Field.{Field}
-use Rattle.avro_datum.specs.declared.datum.Datum.{Datum, out-Datum}
-use Rattle.avro_datum.specs.declared.datum.Datum.TheOpen as kinds
-use Rattle.avro_datum.specs.Value.{Level}
+use Rattle.schema_tree.specs.declared.schema.Field.{Field}
+use Rattle.datum_tree.specs.declared.datum.Datum.{Datum, out-Datum}
+use Rattle.datum_tree.specs.declared.datum.Datum.TheOpen as kinds
+use Rattle.datum_tree.specs.Value.{Level}
 use Rattle.row_file.specs.declared.refusal.RowRefusal.{RowRefusal}
 use Rattle.row_file.specs.declared.refusal.RowRefusal.TheVariants.{Kind}
 use Rattle.row_file.specs.Field.{Found, find, row_id_field, last_updated_field}

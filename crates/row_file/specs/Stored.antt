@@ -7,11 +7,11 @@ use Rattle.row_types.specs.declared.column.Kind.TheVariants as kinds
 use Rattle.row_types.specs.declared.row.Row.{Row}
 use Rattle.row_types.specs.declared.row.StoredRow.{StoredRow}
 use Rattle.avro_wire.specs.Blocks.{SpellsItems}
-use Rattle.avro_schema.specs.declared.schema.Schema.{Schema}
-use Rattle.avro_schema.specs.declared.schema.Field.{Field}
+use Rattle.schema_tree.specs.declared.schema.Schema.{Schema}
+use Rattle.schema_tree.specs.declared.schema.Field.{Field}
 use Rattle.avro_schema.specs.Meaning.{IsSchemaText}
-use Rattle.avro_datum.specs.declared.datum.Datum.{Datum}
-use Rattle.avro_datum.specs.Spelling.{IsEncoding}
+use Rattle.datum_tree.specs.declared.datum.Datum.{Datum}
+use Rattle.datum_tree.specs.Spelling.{IsEncoding}
 use Rattle.avro_container.specs.declared.container.Block.{Block}
 use Rattle.avro_container.specs.declared.container.Container.{Container}
 use Rattle.avro_container.specs.Header.{schema_key, bound_to}

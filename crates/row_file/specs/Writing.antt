@@ -11,15 +11,15 @@ use Rattle.row_types.specs.declared.column.Kind.{Kind}
 use Rattle.row_types.specs.declared.column.Kind.TheVariants as kinds
 use Rattle.row_types.specs.declared.row.StoredRow.{StoredRow}
 use Rattle.limits.specs.declared.which.Which.TheVariants.{FileRows, Object}
-use Rattle.avro_schema.specs.declared.schema.Schema.{Schema}
-use Rattle.avro_schema.specs.declared.schema.Schema.TheVariants as schemas
-use Rattle.avro_schema.specs.declared.schema.Field.{Field, roll-Field}
-use Rattle.avro_schema.specs.declared.schema.Logical.TheVariants.{Plain, Date, TimeMicros, StampMicros, StampMicrosUtc}
+use Rattle.schema_tree.specs.declared.schema.Schema.{Schema}
+use Rattle.schema_tree.specs.declared.schema.Schema.TheVariants as schemas
+use Rattle.schema_tree.specs.declared.schema.Field.{Field, roll-Field}
+use Rattle.schema_tree.specs.declared.schema.Logical.TheVariants.{Plain, Date, TimeMicros, StampMicros, StampMicrosUtc}
 use Rattle.avro_schema.specs.Printing.{schema_text}
 use Rattle.avro_schema.specs.Printable.{is_avro_name}
-use Rattle.avro_datum.specs.declared.datum.Datum.{Datum}
-use Rattle.avro_datum.specs.declared.datum.Datum.TheVariants as datums
-use Rattle.avro_datum.specs.Canonical.{canonical}
+use Rattle.datum_tree.specs.declared.datum.Datum.{Datum}
+use Rattle.datum_tree.specs.declared.datum.Datum.TheVariants as datums
+use Rattle.datum_writing.specs.Canonical.{canonical}
 use Rattle.avro_container.specs.declared.container.Block.{Block}
 use Rattle.avro_container.specs.declared.container.Container.{Container}
 use Rattle.avro_container.specs.Header.{schema_key, codec_key}

@@ -5,8 +5,8 @@ use Rattle.row_types.specs.declared.column.Column.{Column}
 use Rattle.row_types.specs.declared.row.StoredRow.{StoredRow}
 use Rattle.avro_schema.specs.Printing.{schema_text}
 use Rattle.avro_schema.specs.Reading.{schema_of}
-use Rattle.avro_datum.specs.Canonical.{canonical}
-use Rattle.avro_datum.specs.Spelling.{IsEncoding}
+use Rattle.datum_writing.specs.Canonical.{canonical}
+use Rattle.datum_tree.specs.Spelling.{IsEncoding}
 use Rattle.row_file.specs.Writing.{file_schema, row_datum}
 
 -- a number of 64 bits, or none

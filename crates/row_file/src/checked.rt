@@ -22,7 +22,7 @@ use crate::opening::open_file;
 use crate::refusal::RowRefusal;
 use crate::row::{Layout, RowRef, take_row};
 use avro_container::Walk;
-use avro_schema::Schema;
+use schema_tree::Schema;
 use row_types::Columns;
 use std::alloc::Global;
 use std::marker::Model;

@@ -14,7 +14,7 @@ use crate::plan::plan_of;
 use crate::refusal::RowRefusal;
 use crate::row::{Layout, RowRef, nulls};
 use avro_container::Walk;
-use avro_schema::Schema;
+use schema_tree::Schema;
 use row_types::Columns;
 use std::alloc::{AllocError, Global};
 

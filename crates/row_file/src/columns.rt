@@ -2,7 +2,7 @@
 
 ghost use Rattle.std.specs.Prelude.{◌≡◌, ◌≤◌, [], length, All, IfOk};
 ghost use Rattle.words.specs.Reading.{Gives, never};
-ghost use Rattle.avro_schema.specs.declared.schema.Field.{out-Field};
+ghost use Rattle.schema_tree.specs.declared.schema.Field.{out-Field};
 ghost use Rattle.row_types.specs.Columns.{first_fault, has_name, has_wrong_name as wrong_name};
 ghost use Rattle.row_file.specs.Refusal.{is_memory};
 ghost use Rattle.row_file.specs.Kind.{nullable};
@@ -17,7 +17,7 @@ use crate::kind::{kind_of, nullable};
 use crate::opening::open_file;
 use crate::refusal::RowRefusal;
 use avro_container::Walk;
-use avro_schema::{Field, Schema};
+use schema_tree::{Field, Schema};
 use lists::Copied;
 use row_types::{Column, Columns, ColumnsRefusal};
 use std::alloc::Global;

@@ -6,7 +6,7 @@ ghost use Rattle.row_file.specs.Field.{fields_of, is_this, find, is_missing, is_
 
 use crate::kind::is_allowed;
 use crate::refusal::RowRefusal;
-use avro_schema::{Field, Schema};
+use schema_tree::{Field, Schema};
 use row_types::{Column, Kind};
 
 /// The id of the column of row ids. Iceberg spec, "Reserved Field IDs".

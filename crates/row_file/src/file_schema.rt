@@ -7,7 +7,7 @@ ghost use Rattle.avro_schema.specs.Printable.{begins_name as begins, goes_on_nam
 ghost use Rattle.row_file.specs.Writing.{written_type as type_of, optional_type as type_beside_null, field_of as field_with, field_name as name_of, column_field as field_of_column, is_plain_name as plain_name, are_plain_names as plain_names, lineage_fields, row_id_name, last_updated_name, file_schema as schema_of_file};
 
 use crate::field::{LAST_UPDATED_FIELD, ROW_ID_FIELD};
-use avro_schema::{Field, Logical, Schema};
+use schema_tree::{Field, Logical, Schema};
 use avro_wire::Text;
 use lists::{Copied, List};
 use row_types::{Column, Kind};

@@ -2,15 +2,13 @@
 
 ghost use Rattle.std.specs.Prelude.{◌≡◌, ◌≤◌, length, IfOk};
 ghost use Rattle.words.specs.Reading.{Gives, never};
-ghost use Rattle.avro_schema.specs.declared.schema.Schema.{out-Schema};
+ghost use Rattle.schema_tree.specs.declared.schema.Schema.{out-Schema};
 ghost use Rattle.row_file.specs.Cell.{lent_cell, null_branch, form_of, primitive_at, form_at};
 
 use crate::cell::CellRef;
 use crate::kind::{Primitive, is_null, nullable, primitive_of};
-use avro_datum::{
-    Cursor, DatumRefusal, pass_sized, take_choice, take_flag, take_int_at, take_long_at, take_text,
-};
-use avro_schema::Schema;
+use datum_reading::{Cursor, DatumRefusal, pass_sized, take_choice, take_flag, take_int_at, take_long_at, take_text};
+use schema_tree::Schema;
 
 /// How the cells of a type are read.
 #[derive(Clone, Copy)]

@@ -2,10 +2,10 @@
 
 ghost use Rattle.std.specs.Prelude.{◌≡◌, MatchOption};
 ghost use Rattle.std.specs.declared.option.Option.TheVariants.{None, Some};
-ghost use Rattle.avro_schema.specs.declared.schema.Schema.{out-Schema};
+ghost use Rattle.schema_tree.specs.declared.schema.Schema.{out-Schema};
 ghost use Rattle.row_file.specs.Kind.{nullable, beside_null, is_null, primitive_of, is_read_from, holds, is_allowed, int_kind, long_kind, kind_of};
 
-use avro_schema::{Logical, Schema};
+use schema_tree::{Logical, Schema};
 use row_types::Kind;
 
 /// A primitive type of cells. Avro spec, "Primitive Types".

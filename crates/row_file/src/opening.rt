@@ -9,7 +9,8 @@ ghost use Rattle.row_file.specs.File.{schema_in, opened};
 
 use crate::refusal::RowRefusal;
 use avro_container::{ContainerRefusal, Meta, Walk, bound_to, open_walk};
-use avro_schema::{Schema, SchemaRefusal, read_schema};
+use avro_schema::{SchemaRefusal, read_schema};
+use schema_tree::Schema;
 use limits::Which;
 use std::alloc::Global;
 

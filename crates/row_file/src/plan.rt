@@ -7,7 +7,7 @@ ghost use Rattle.row_file.specs.Planning.{aims_from, planned, all_planned};
 
 use crate::field::{LAST_UPDATED_FIELD, ROW_ID_FIELD, find};
 use crate::form::{Form, form_of};
-use avro_schema::Field;
+use schema_tree::Field;
 use row_types::{Column, Columns};
 use std::alloc::{AllocError, Global};
 

@@ -4,7 +4,7 @@ ghost use Rattle.std.specs.Prelude.{◌≡◌};
 ghost use Rattle.row_file.specs.declared.refusal.RowRefusal.TheVariants.{Memory};
 
 use avro_container::ContainerRefusal;
-use avro_datum::DatumRefusal;
+use datum_reading::DatumRefusal;
 use avro_schema::SchemaRefusal;
 use limits::Which;
 use std::alloc::{AllocError, AllocFailed};

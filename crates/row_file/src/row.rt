@@ -3,8 +3,8 @@
 ghost use Rattle.std.specs.Prelude.{◌≡◌, ◌≤◌, [], ◌∷◌, length, map, replicate, IfOk, None};
 ghost use Rattle.row_types.specs.declared.cell.Cell.TheVariants.{Null};
 ghost use Rattle.words.specs.Reading.{Gives, never};
-ghost use Rattle.avro_datum.specs.Readers.{readers_of};
-ghost use Rattle.avro_datum.specs.Reading.{fields_at, datum_at};
+ghost use Rattle.datum_reading.specs.Readers.{readers_of};
+ghost use Rattle.datum_reading.specs.Reading.{fields_at, datum_at};
 ghost use Rattle.row_file.specs.Refusal.{datum_refusal};
 ghost use Rattle.row_file.specs.Cell.{lent_cell, cell_read};
 ghost use Rattle.row_file.specs.Field.{fields_of as fields_in};
@@ -17,8 +17,8 @@ use crate::cell::CellRef;
 use crate::form::take_cell;
 use crate::plan::{Step, Target};
 use crate::refusal::RowRefusal;
-use avro_datum::{Cursor, DatumRefusal, skip};
-use avro_schema::{Field, Schema};
+use datum_reading::{Cursor, DatumRefusal, skip};
+use schema_tree::{Field, Schema};
 use row_types::Column;
 use std::alloc::{AllocError, Global};
 

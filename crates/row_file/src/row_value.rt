@@ -4,7 +4,7 @@ ghost use Rattle.std.specs.Prelude.{◌≡◌, ◌++◌, true, if◌then◌else�
 ghost use Rattle.row_file.specs.Writing.{cell_datum as value_of_cell, optional_datum as value_beside_null, cell_data as values_of_cells, number_datum as value_of_number, lineage_data, row_datum, kept};
 ghost use Rattle.row_file.specs.Written.{IsLong, HasLongs};
 
-use avro_datum::Datum;
+use datum_tree::Datum;
 use lists::{Copied, List};
 use row_types::{Cell, Column, StoredRow};
 use sqlite_items::Boxed;

@@ -1,7 +1,7 @@
 use Rattle.std.proofs.Common.{◌∷◌, [], ◌++◌, codes, ap, append_assoc, ◌∙◌}
 use Rattle.json.specs.Token.{key, begin_object, end_object}
 use Rattle.avro_schema.specs.Printing.{Written, written, written_of, written_field, text_member, id_member}
-use Rattle.avro_schema.proofs.Equations.{fold_rec, fold_map}
+use Rattle.schema_tree.specs.Equations.{fold_rec, fold_map}
 use Rattle.avro_schema.proofs.Puts.{put_then, wrote_last, puts_as}
 use Rattle.avro_schema.proofs.printing.+printing.Goals as goal
 

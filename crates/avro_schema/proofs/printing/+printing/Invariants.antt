@@ -1,7 +1,7 @@
 use Rattle.std.proofs.Common.{◌≡◌, ◌++◌, ◌∷◌, [], drop, map, true}
 use Rattle.json.specs.Token.{end_array}
 use Rattle.avro_schema.specs.Printing.{list_of}
-use Rattle.avro_schema.specs.Ids.{all_true, has_ids, field_has_ids}
+use Rattle.schema_tree.specs.Ids.{all_true, has_ids, field_has_ids}
 use Rattle.avro_schema.specs.Putting.{fields_tokens, branches_tokens}
 use Rattle.avro_schema.proofs.printing.+printing.Given as goal
 

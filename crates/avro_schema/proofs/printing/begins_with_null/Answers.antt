@@ -1,8 +1,8 @@
 use Rattle.std.proofs.Common.{◌≡◌, ap, sym, ◌∙◌, List, [], ◌∷◌, Some, None, false, Bool, map, refl, Option}
 use Rattle.std.specs.List.{slice_get}
-use Rattle.avro_schema.specs.declared.schema.Schema.{Schema}
+use Rattle.schema_tree.specs.declared.schema.Schema.{Schema}
 use Rattle.avro_schema.specs.Printing.{Written, written_of, written_field, written, null_is_first}
-use Rattle.avro_schema.proofs.Equations.{fold_union}
+use Rattle.schema_tree.specs.Equations.{fold_union}
 use Rattle.avro_schema.proofs.printing.begins_with_null.Goals as goal
 
 -- whether the schema that may be there is the null type

@@ -1,6 +1,6 @@
 use Rattle.std.proofs.Common.{ap}
 use Rattle.avro_schema.specs.Printing.{Written, written_of, written_field}
-use Rattle.avro_schema.proofs.Equations.{fold_enum}
+use Rattle.schema_tree.specs.Equations.{fold_enum}
 use Rattle.avro_schema.proofs.Puts.{put_then, wrote_then, wrote_last, puts_as}
 use Rattle.avro_schema.proofs.printing.put_enum.Goals as goal
 

@@ -1,7 +1,7 @@
 use Rattle.std.proofs.Common.{sym, ap, ◌∙◌}
-use Rattle.avro_schema.specs.declared.schema.Schema.TheVariants.{Fixed}
+use Rattle.schema_tree.specs.declared.schema.Schema.TheVariants.{Fixed}
 use Rattle.avro_schema.specs.Printing.{Written, written_of, written_field, written}
-use Rattle.avro_schema.proofs.Equations.{fold_fixed}
+use Rattle.schema_tree.specs.Equations.{fold_fixed}
 use Rattle.avro_schema.proofs.Puts.{put_then, wrote_then, wrote_last, puts_as}
 use Rattle.avro_schema.proofs.printing.put_fixed.Goals as goal
 

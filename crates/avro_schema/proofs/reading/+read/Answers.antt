@@ -4,8 +4,8 @@ use Rattle.std.specs.Fmt.{decimal}
 use Rattle.words.specs.Laws.{refused_so}
 use Rattle.words.specs.Reading.{Gives}
 use Rattle.serde_json.specs.View.{view}
-use Rattle.avro_schema.specs.declared.schema.Schema.{Schema}
-use Rattle.avro_schema.specs.declared.schema.Field.{Field}
+use Rattle.schema_tree.specs.declared.schema.Schema.{Schema}
+use Rattle.schema_tree.specs.declared.schema.Field.{Field}
 use Rattle.avro_schema.specs.Parts.{schema_below}
 use Rattle.avro_schema.specs.Reading.{Reader}
 use Rattle.avro_schema.specs.Refusal.{is_memory}

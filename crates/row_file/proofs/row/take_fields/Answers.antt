@@ -1,6 +1,6 @@
 use Rattle.std.proofs.Common.{arith, subst}
 use Rattle.std.proofs.lemmas.Result.{err_from_is_err_and}
-use Rattle.avro_schema.specs.declared.schema.Field.{Field}
+use Rattle.schema_tree.specs.declared.schema.Field.{Field}
 use Rattle.row_file.specs.Plan.{ReadsAs}
 use Rattle.row_file.proofs.StepLemmas.{planned_reads, filled_on, filled_fails, filled_end}
 use Rattle.row_file.proofs.row.take_fields.Goals as goal

@@ -1,6 +1,6 @@
 use Rattle.std.proofs.Common.{◌≡◌, ◌≤◌, [], length}
-use Rattle.avro_datum.specs.Readers.{readers_of}
-use Rattle.avro_datum.specs.Reading.{fields_at}
+use Rattle.datum_reading.specs.Readers.{readers_of}
+use Rattle.datum_reading.specs.Reading.{fields_at}
 use Rattle.row_file.specs.Checked.{lent_row}
 use Rattle.row_file.proofs.StepLemmas.{Filled}
 use Rattle.row_file.proofs.row.take_fields.Given as goal

@@ -1,7 +1,7 @@
 use Rattle.std.proofs.Common.{◌≡◌, [], rules}
 use Rattle.row_file.specs.Checked.{lent_row}
 use Rattle.row_file.specs.Field.{fields_of as fields_in}
-use Rattle.avro_datum.specs.Reading.{datum_at}
+use Rattle.datum_reading.specs.Reading.{datum_at}
 use Rattle.row_file.proofs.RowLemmas.{none_passed, record_as}
 use Rattle.row_file.proofs.row.take_values.Goals as goal
 

@@ -1,7 +1,0 @@
-use Rattle.std.proofs.Common.{rules}
-use Rattle.avro_datum.specs.Reading.{choice_at}
-use Rattle.avro_datum.proofs.primitive.take_choice.Goals as goal
-
-pub returns-clause-exact : goal.returns-clause-exact
-unfolding choice_at
-returns-clause-exact c = search rules

@@ -1,0 +1,7 @@
+pub mod Refusal
+pub mod Reading
+pub mod Readers
+pub mod Block
+pub mod Layers
+pub mod FieldSteps
+pub mod Agreeing

@@ -1,0 +1,3 @@
+mod CountLemmas
+mod FitLemmas
+pub mod SpelledFits

@@ -1,0 +1,10 @@
+pub mod Value
+pub mod Kinds
+pub mod Spelling
+pub mod Fits
+pub mod Counting
+pub mod Sums
+pub mod Counts
+pub mod KindLaws
+pub mod SpellingLaws
+pub mod FitsEquations

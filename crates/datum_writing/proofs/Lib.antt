@@ -1,0 +1,4 @@
+mod PutLemmas
+mod WritingEquations
+mod SpelledLemmas
+mod SpelledSteps

@@ -1,0 +1,6 @@
+pub mod Tree
+pub mod Measure
+pub mod Ids
+pub mod Equations
+pub mod TreeLaws
+pub mod Inductions

@@ -1,0 +1,16 @@
+//! The trees of Avro schemas.
+//!
+//! | Module | What it has |
+//! |---|---|
+//! | `schema` | the tree of a schema, and its copy |
+//! | `measure` | how deep and how large a schema is, as far as a limit asks |
+//! | `weight` | how much memory the copies of schemas take |
+#![tactic(auto)]
+
+mod measure;
+mod schema;
+mod weight;
+
+pub use measure::{is_within, take_size};
+pub use schema::{Branches, Field, Fields, Logical, Name, Names, Schema};
+pub use weight::take_weight;
