@@ -3,7 +3,7 @@ use Rattle.std.proofs.Common.{◌≡◌, ℕ, ◌+◌, ℤ, pos, negsuc, List, �
 use Rattle.words.specs.Reading.{map_refusal}
 use Rattle.avro_wire.specs.Number.{long, SpellsNumber}
 use Rattle.avro_wire.specs.Reading.{number_at}
-use Rattle.avro_wire.proofs.Numbers.{number_again}
+use Rattle.avro_wire.specs.ReadingLaws.{number_again}
 use Rattle.avro_container.specs.Refusal.{block_refusal}
 use Rattle.avro_container.specs.Header.{part_at}
 use Rattle.avro_container.specs.Block.{natural, count_at}

@@ -6,7 +6,7 @@ use Rattle.words.specs.Grammar.{Joined}
 use Rattle.avro_wire.specs.Number.{long, SpellsNumber}
 use Rattle.avro_wire.specs.Blocks.{SpellsBytes}
 use Rattle.avro_wire.specs.Reading.{number_at, range_behind, bytes_at}
-use Rattle.avro_wire.proofs.Ranges.{bytes_again}
+use Rattle.avro_wire.specs.ReadingLaws.{bytes_again}
 use Rattle.avro_container.specs.Refusal.{header_refusal}
 use Rattle.avro_container.specs.Header.{item_at, part_at}
 use Rattle.avro_container.proofs.Parts.{Took, drop_behind, range_is, took_then, took_as}

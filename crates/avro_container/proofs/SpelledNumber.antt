@@ -2,7 +2,7 @@
 use Rattle.std.proofs.Common.{◌≡◌, ℕ, ◌+◌, ◌<◌, ℤ, List, [], ◌∷◌, ◌++◌, length, drop, Ok, inl, inr, refl, arith}
 use Rattle.avro_wire.specs.Number.{long, SpellsNumber}
 use Rattle.avro_wire.specs.Reading.{number_at}
-use Rattle.avro_wire.proofs.Numbers.{front_cases, number_again, number_short, number_long}
+use Rattle.avro_wire.specs.ReadingLaws.{front_cases, number_again, number_short, number_long}
 use Rattle.avro_container.specs.Refusal.{header_refusal}
 use Rattle.avro_container.specs.Header.{map_number_at}
 use Rattle.avro_container.proofs.Parts.{Took}

@@ -7,7 +7,7 @@ use Rattle.std.proofs.lemmas.List.{length-append}
 use Rattle.std.proofs.lemmas.List.Elements.{All-nil, All-cons, All-head, All-tail}
 use Rattle.avro_wire.specs.Number.{long, SpellsNumber}
 use Rattle.avro_wire.specs.Writing.{number_text, size_text, bytes_text}
-use Rattle.avro_wire.proofs.BlocksLaws.{count_spelled}
+use Rattle.avro_wire.specs.WritingLaws.{count_spelled}
 use Rattle.avro_container.specs.declared.container.Block.{Block}
 use Rattle.avro_container.specs.Format.{SpellsBlock}
 use Rattle.avro_container.specs.Writing.{block_text, HasLongCount}

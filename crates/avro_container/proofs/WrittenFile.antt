@@ -3,7 +3,7 @@ use Rattle.std.proofs.Common.{◌≡◌, ℕ, ◌+◌, ◌<◌, ◌^◌, List, �
 use Rattle.std.specs.List.{flat_map}
 use Rattle.std.proofs.lemmas.List.{length-append}
 use Rattle.avro_wire.specs.Writing.{list_text}
-use Rattle.avro_wire.proofs.BlocksLaws.{items_spelled}
+use Rattle.avro_wire.specs.WritingLaws.{items_spelled}
 use Rattle.avro_container.specs.declared.container.Container.{Container}
 use Rattle.avro_container.specs.Header.{magic}
 use Rattle.avro_container.specs.Format.{SpellsBlock, IsContainer}

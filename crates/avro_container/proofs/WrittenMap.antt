@@ -4,7 +4,7 @@ use Rattle.std.specs.List.{flat_map}
 use Rattle.std.proofs.lemmas.List.{length-append}
 use Rattle.std.proofs.lemmas.List.Elements.{All-nil, All-cons}
 use Rattle.avro_wire.specs.Writing.{number_text, size_text, bytes_text, list_text}
-use Rattle.avro_wire.proofs.BlocksLaws.{bytes_spelled, list_spelled}
+use Rattle.avro_wire.specs.WritingLaws.{bytes_spelled, list_spelled}
 use Rattle.avro_container.specs.Header.{Pair, most_pairs}
 use Rattle.avro_container.specs.Format.{SpellsPair, SpellsMap}
 use Rattle.avro_container.specs.Writing.{pair_text}

@@ -1,5 +1,6 @@
 -- Groups of seven bits: what one more of them adds, and what the bytes so far say of the number.
-use Rattle.std.proofs.Common.{◌≡◌, ℕ, ◌+◌, ◌*◌, ◌%◌, ◌^◌, ◌<◌, ◌≤◌, true, false, List, [], ◌∷◌, ◌++◌, length, get_or, take, drop, refl, sym, ◌∙◌, arith, below_more}
+use Rattle.std.proofs.Common.{◌≡◌, ℕ, ◌+◌, ◌*◌, ◌%◌, ◌^◌, ◌<◌, ◌≤◌, true, false, List, [], ◌∷◌, ◌++◌, length, get_or,
+  take, drop, refl, sym, ◌∙◌, arith, below_more}
 use Rattle.std.proofs.lemmas.Nat.{pow-add, pow_pos}
 use Rattle.std.proofs.Math.Nat.{mul-le-mul_right, pow-le-pow_right, mod-eq_of_lt, mul_comm, mul_assoc}
 use Rattle.std.specs.Prelude.{nat_le, nat_lt, Ok, Err}
@@ -11,6 +12,7 @@ use Rattle.std.proofs.lemmas.List.Sums.{prefix_len_is, prefix_len_stops}
 use Rattle.avro_wire.specs.declared.refusal.WireRefusal.TheVariants.{Short, TooLong}
 use Rattle.avro_wire.specs.Number.{Bounds, groups_value}
 use Rattle.avro_wire.specs.Reading.{has_high_bit, high_bytes, groups_at}
+use Rattle.avro_wire.specs.GroupsLaws.{high_at_least}
 
 -- a group of seven bits at a shift that leaves room for it
 pub group_room : (g k : ℕ) → g < 128 → k + 7 ≤ 64 → g * 2 ^ k + 2 ^ k ≤ 2 ^ 64
@@ -77,16 +79,9 @@ goes_on rest count value byte read more byte-is high below =
       within = omega arith;
     }
 
--- so many bytes with the high bit are at least as many
-pub high_at_least : (rest : List ℕ) (count : ℕ) → count ≤ length rest → ((k : ℕ) → k < count → has_high_bit (get_or rest k 0) ≡ true) → count ≤ prefix_len has_high_bit rest
-high_at_least rest count within high =
-    elim (cases_lt (prefix_len has_high_bit rest) count) [
-      | inl lt ↦ absurd (false≢true (sym (prefix_len_stops has_high_bit rest 0 (omega arith)) ∙ high (prefix_len has_high_bit rest) lt))
-      | inr le ↦ le
-    ]
-
 -- the input ends behind them
-pub ends_short : (bounds : Bounds) (input : List ℕ) (place count value : ℕ) → place ≤ length input → IsRead (drop place input) count value → count < bounds.bytes → length input ≤ place + count
+pub ends_short : (bounds : Bounds) (input : List ℕ) (place count value : ℕ) → place ≤ length input
+    → IsRead (drop place input) count value → count < bounds.bytes → length input ≤ place + count
     → groups_at bounds input place ≡ Err (Short place)
 unfolding groups_at
 ends_short bounds input place count value start read more ended =
@@ -96,7 +91,8 @@ ends_short bounds input place count value start read more ended =
     rw (high, few, short) refl
 
 -- they are as many as may be
-pub ends_long : (bounds : Bounds) (input : List ℕ) (place count : ℕ) → bounds.bytes ≤ count → count ≤ length (drop place input) → ((k : ℕ) → k < count → has_high_bit (get_or (drop place input) k 0) ≡ true)
+pub ends_long : (bounds : Bounds) (input : List ℕ) (place count : ℕ) → bounds.bytes ≤ count
+    → count ≤ length (drop place input) → ((k : ℕ) → k < count → has_high_bit (get_or (drop place input) k 0) ≡ true)
     → groups_at bounds input place ≡ Err (TooLong place)
 unfolding groups_at
 ends_long bounds input place count most within high =
@@ -110,7 +106,8 @@ record IsLast (bounds : Bounds) (input : List ℕ) (place count value : ℕ) : T
   few : nat_le bounds.bytes count ≡ false
   short : nat_le (length input) (place + count) ≡ false
 
-last_byte : (bounds : Bounds) (input : List ℕ) (place count value byte : ℕ) → IsRead (drop place input) count value → count < bounds.bytes → place + count < length input → byte ≡ get_or input (place + count) 0 → byte < 128
+last_byte : (bounds : Bounds) (input : List ℕ) (place count value byte : ℕ) → IsRead (drop place input) count value
+    → count < bounds.bytes → place + count < length input → byte ≡ get_or input (place + count) 0 → byte < 128
     → IsLast bounds input place count (value + (byte % 128) * 2 ^ (7 * count))
 last_byte bounds input place count value byte read room more byte-is low =
     let here : byte ≡ get_or (drop place input) count 0 = byte-is ∙ sym (get_or-drop place input count 0) in
@@ -123,7 +120,9 @@ last_byte bounds input place count value byte read room more byte-is low =
     }
 
 -- and its value fits
-pub ends_well : (bounds : Bounds) (input : List ℕ) (place count value byte : ℕ) → IsRead (drop place input) count value → count < bounds.bytes → place + count < length input → byte ≡ get_or input (place + count) 0 → byte < 128
+pub ends_well : (bounds : Bounds) (input : List ℕ) (place count value byte : ℕ)
+    → IsRead (drop place input) count value → count < bounds.bytes → place + count < length input
+    → byte ≡ get_or input (place + count) 0 → byte < 128
     → value + (byte % 128) * 2 ^ (7 * count) ≤ bounds.largest → groups_at bounds input place ≡ Ok (value + (byte % 128) * 2 ^ (7 * count), place + count + 1)
 unfolding groups_at
 ends_well bounds input place count value byte read room more byte-is low fits =
@@ -132,7 +131,9 @@ ends_well bounds input place count value byte read room more byte-is low fits =
     rw (last.high, last.few, last.short, last.value_is, small) refl
 
 -- or is too large
-pub ends_large : (bounds : Bounds) (input : List ℕ) (place count value byte : ℕ) → IsRead (drop place input) count value → count < bounds.bytes → place + count < length input → byte ≡ get_or input (place + count) 0 → byte < 128
+pub ends_large : (bounds : Bounds) (input : List ℕ) (place count value byte : ℕ)
+    → IsRead (drop place input) count value → count < bounds.bytes → place + count < length input
+    → byte ≡ get_or input (place + count) 0 → byte < 128
     → bounds.largest < value + (byte % 128) * 2 ^ (7 * count) → groups_at bounds input place ≡ Err (TooLong place)
 unfolding groups_at
 ends_large bounds input place count value byte read room more byte-is low large =
@@ -141,7 +142,9 @@ ends_large bounds input place count value byte read room more byte-is low large 
     rw (last.high, last.few, last.short, last.value_is, big) refl
 
 -- a tenth byte above 1 goes on or is too large
-pub ends_tenth : (bounds : Bounds) (input : List ℕ) (place value byte : ℕ) → IsRead (drop place input) 9 value → 9 < bounds.bytes → bounds.bytes ≤ 10 → bounds.largest < 2 ^ 64 → place + 9 < length input → byte ≡ get_or input (place + 9) 0 → 1 < byte
+pub ends_tenth : (bounds : Bounds) (input : List ℕ) (place value byte : ℕ) → IsRead (drop place input) 9 value
+    → 9 < bounds.bytes → bounds.bytes ≤ 10 → bounds.largest < 2 ^ 64 → place + 9 < length input
+    → byte ≡ get_or input (place + 9) 0 → 1 < byte
     → groups_at bounds input place ≡ Err (TooLong place)
 ends_tenth bounds input place value byte read room most fits more byte-is above =
     let here : byte ≡ get_or (drop place input) 9 0 = byte-is ∙ sym (get_or-drop place input 9 0) in

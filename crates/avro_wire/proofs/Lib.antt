@@ -3,4 +3,3 @@ pub mod Numbers
 pub mod PutSteps
 pub mod Ranges
 pub mod WritingLemmas
-pub mod BlocksLaws

@@ -1,11 +1,12 @@
 -- The steps of the puts: the loop over the groups, and what is appended.
-use Rattle.std.proofs.Common.{◌≡◌, ℕ, suc, ◌+◌, ◌/◌, ◌%◌, ◌^◌, ◌<◌, ◌≤◌, ℤ, List, ◌++◌, length, take, Result, Ok, Err, OnOk, is_ok, if◌then◌else◌, inl, inr, refl, arith}
+use Rattle.std.proofs.Common.{◌≡◌, ℕ, suc, ◌+◌, ◌/◌, ◌%◌, ◌^◌, ◌<◌, ◌≤◌, ℤ, List, ◌++◌, length, take, Result, Ok, Err,
+  OnOk, is_ok, if◌then◌else◌, inl, inr, refl, arith}
 use Rattle.std.proofs.lemmas.Bool.{cases_lt}
 use Rattle.std.proofs.lemmas.List.{append_assoc}
 use Rattle.std.proofs.lemmas.Grind.{take-set_at}
 use Rattle.std.proofs.Math.ListN.{set, length-set}
 use Rattle.avro_wire.specs.Writing.{zigzag, groups_of, number_text, size_text, bytes_text}
-use Rattle.avro_wire.proofs.WritingLemmas.{groups_last, groups_more, groups_few}
+use Rattle.avro_wire.specs.GroupsLaws.{groups_last, groups_more, groups_few}
 
 -- ---- the loop over the groups
 
@@ -20,7 +21,8 @@ pub none_put : (bytes : List ℕ) (value : ℕ) → length bytes ≡ 10 → valu
 none_put bytes value size fits = let few : length (groups_of value) ≤ 10 = groups_few 9 value (omega arith) in record { size = size; room = omega arith; parts = refl }
 
 -- the low group of what is left is put, and another one follows
-pub goes_on : (bytes : List ℕ) (count left value : ℕ) → IsPut bytes count left value → 128 ≤ left → IsPut (set bytes count (left % 128 + 128)) (count + 1) (left / 128) value
+pub goes_on : (bytes : List ℕ) (count left value : ℕ) → IsPut bytes count left value → 128 ≤ left
+    → IsPut (set bytes count (left % 128 + 128)) (count + 1) (left / 128) value
 goes_on bytes count left value put high =
     let more = groups_more left high in
     let room : count + suc (length (groups_of (left / 128))) ≤ 10 = rw more at put.room in
@@ -47,7 +49,9 @@ ends_put bytes count left value put low =
 -- ---- what the puts leave
 
 -- groups that are appended, or refused
-pub appended : {X E : Type 0} (r : Result X E) (new old : List ℕ) (count : ℕ) (bytes : List ℕ) (groups : ℕ) (value : ℤ) → new ≡ (if is_ok r then old ++ take count bytes else old) → take count bytes ≡ groups_of groups → groups ≡ zigzag value
+pub appended : {X E : Type 0} (r : Result X E) (new old : List ℕ) (count : ℕ) (bytes : List ℕ) (groups : ℕ)
+    (value : ℤ) → new ≡ (if is_ok r then old ++ take count bytes else old) → take count bytes ≡ groups_of groups
+    → groups ≡ zigzag value
     → OnOk r (new ≡ old ++ number_text value)
 unfolding number_text
 appended (Ok x) new old count bytes groups value after parts number = cc

@@ -1,5 +1,6 @@
 -- Bytes behind a length, by the relation: what can stand there, and what is read.
-use Rattle.std.proofs.Common.{◌≡◌, ℕ, ◌+◌, ◌-◌, ◌≤◌, ℤ, pos, negsuc, ◌<ℤ◌, true, false, List, ◌++◌, ◌⊎◌, ◌↔◌, length, drop, slice_range, Result, Ok, Err, IfOk, nat_lt, inl, inr, refl, sym, ap, ◌∙◌, arith}
+use Rattle.std.proofs.Common.{◌≡◌, ℕ, ◌+◌, ◌-◌, ◌≤◌, ℤ, pos, negsuc, ◌<ℤ◌, true, false, List, ◌++◌, ◌⊎◌, ◌↔◌, length,
+  drop, slice_range, Result, Ok, Err, IfOk, nat_lt, inl, inr, refl, sym, ap, ◌∙◌, arith}
 use Rattle.std.proofs.lemmas.Bool.{cases_lt, lt-ltb, le-ltb}
 use Rattle.std.proofs.lemmas.Int.{ints}
 use Rattle.std.proofs.lemmas.List.{length-drop, length-append}
@@ -7,26 +8,14 @@ use Rattle.avro_wire.specs.declared.refusal.WireRefusal.{WireRefusal}
 use Rattle.avro_wire.specs.declared.refusal.WireRefusal.TheVariants.{Short, TooLong}
 use Rattle.avro_wire.specs.Number.{long, SpellsNumber, EndsInsideBytes, IsNoLength}
 use Rattle.avro_wire.specs.Reading.{bytes_at}
-use Rattle.avro_wire.proofs.Numbers.{number_again, number_short, number_long, front_cases, number_found}
+use Rattle.avro_wire.specs.ReadingLaws.{number_again, number_short, number_long, front_cases, left_behind, bytes_again}
+use Rattle.avro_wire.proofs.Numbers.{number_found}
 
 -- ---- what is read where the relation says what stands there
 
--- how many bytes follow the number at the front
-left_behind : (input : List ℕ) (place : ℕ) (bytes after : List ℕ) → drop place input ≡ bytes ++ after → length input - (place + length bytes) ≡ length after
-left_behind input place bytes after parts =
-    let whole : length (drop place input) ≡ length bytes + length after = ap length parts ∙ length-append bytes after in
-    omega (arith, length-drop place input)
-
--- enough bytes behind their length are read
-pub bytes_again : (input : List ℕ) (place : ℕ) (bytes after : List ℕ) (size : ℕ) → drop place input ≡ bytes ++ after → SpellsNumber long bytes (pos size) → size ≤ length after
-    → bytes_at input place ≡ Ok (place + length bytes, place + length bytes + size)
-unfolding bytes_at
-bytes_again input place bytes after size parts spelled enough =
-    let fits : nat_lt (length input - (place + length bytes)) size ≡ false = le-ltb _ _ (omega (arith, left_behind input place bytes after parts)) in
-    rw (number_again long input place bytes after (pos size) parts spelled, fits) refl
-
 -- too few bytes behind their length are short
-few_behind : (input : List ℕ) (place : ℕ) (bytes after : List ℕ) (value : ℤ) → drop place input ≡ bytes ++ after → SpellsNumber long bytes value → pos (length after) <ℤ value
+few_behind : (input : List ℕ) (place : ℕ) (bytes after : List ℕ) (value : ℤ) → drop place input ≡ bytes ++ after
+    → SpellsNumber long bytes value → pos (length after) <ℤ value
     → bytes_at input place ≡ Err (Short place)
 unfolding bytes_at
 few_behind input place bytes after (pos size) parts spelled few =
@@ -35,7 +24,8 @@ few_behind input place bytes after (pos size) parts spelled few =
 few_behind input place bytes after (negsuc size) parts spelled few = absurd (omega (arith, ints))
 
 -- a negative length is too long
-negative_length : (input : List ℕ) (place : ℕ) (bytes after : List ℕ) (value : ℤ) → drop place input ≡ bytes ++ after → SpellsNumber long bytes value → value <ℤ pos 0
+negative_length : (input : List ℕ) (place : ℕ) (bytes after : List ℕ) (value : ℤ) → drop place input ≡ bytes ++ after
+    → SpellsNumber long bytes value → value <ℤ pos 0
     → bytes_at input place ≡ Err (TooLong place)
 unfolding bytes_at
 negative_length input place bytes after (pos size) parts spelled below = absurd (omega (arith, ints))
@@ -71,7 +61,8 @@ record IsWhole (rest : List ℕ) : Type 0 where
   enough : size ≤ length after
 
 -- of a number at the front
-behind_cases : (rest bytes after : List ℕ) (value : ℤ) → rest ≡ bytes ++ after → SpellsNumber long bytes value → IsWhole rest ⊎ (EndsInsideBytes rest ⊎ IsNoLength rest)
+behind_cases : (rest bytes after : List ℕ) (value : ℤ) → rest ≡ bytes ++ after → SpellsNumber long bytes value
+    → IsWhole rest ⊎ (EndsInsideBytes rest ⊎ IsNoLength rest)
 behind_cases rest bytes after (negsuc size) parts spelled =
     inr (inr (inr (record { bytes = bytes; after = after; value = negsuc size; parts = parts; spelled = spelled; such = omega (arith, ints) })))
 behind_cases rest bytes after (pos size) parts spelled =
@@ -92,7 +83,8 @@ bytes_cases rest =
 -- ---- the clauses, of whatever is answered
 
 -- the bytes before the answered start spell how many bytes are answered
-pub bytes_found : (input : List ℕ) (place : ℕ) (r : Result (ℕ × ℕ) WireRefusal) → bytes_at input place ≡ r → IfOk r (λ taken. SpellsNumber long (slice_range input place taken.0) (pos (taken.1 - taken.0)))
+pub bytes_found : (input : List ℕ) (place : ℕ) (r : Result (ℕ × ℕ) WireRefusal) → bytes_at input place ≡ r
+    → IfOk r (λ taken. SpellsNumber long (slice_range input place taken.0) (pos (taken.1 - taken.0)))
 bytes_found input place (Err e) read = tt
 bytes_found input place (Ok taken) read =
     elim (bytes_cases (drop place input)) [
@@ -107,7 +99,8 @@ bytes_found input place (Ok taken) read =
     ]
 
 -- short is answered where the input ends inside
-pub bytes_short_iff : (input : List ℕ) (place : ℕ) (r : Result (ℕ × ℕ) WireRefusal) → bytes_at input place ≡ r → (r ≡ Err (Short place)) ↔ EndsInsideBytes (drop place input)
+pub bytes_short_iff : (input : List ℕ) (place : ℕ) (r : Result (ℕ × ℕ) WireRefusal) → bytes_at input place ≡ r
+    → (r ≡ Err (Short place)) ↔ EndsInsideBytes (drop place input)
 bytes_short_iff input place r read = (
   λ short. elim (bytes_cases (drop place input)) [
     | inl whole ↦ let e = bytes_again input place whole.bytes whole.after whole.size whole.parts whole.spelled whole.enough in cc
@@ -118,7 +111,8 @@ bytes_short_iff input place r read = (
 )
 
 -- too long is answered where no length stands
-pub bytes_long_iff : (input : List ℕ) (place : ℕ) (r : Result (ℕ × ℕ) WireRefusal) → bytes_at input place ≡ r → (r ≡ Err (TooLong place)) ↔ IsNoLength (drop place input)
+pub bytes_long_iff : (input : List ℕ) (place : ℕ) (r : Result (ℕ × ℕ) WireRefusal) → bytes_at input place ≡ r
+    → (r ≡ Err (TooLong place)) ↔ IsNoLength (drop place input)
 bytes_long_iff input place r read = (
   λ long. elim (bytes_cases (drop place input)) [
     | inl whole ↦ let e = bytes_again input place whole.bytes whole.after whole.size whole.parts whole.spelled whole.enough in cc

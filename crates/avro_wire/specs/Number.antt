@@ -1,6 +1,7 @@
 -- What the bytes of a number mean: groups of seven bits, low group first, and zig-zag.
 -- Avro 1.11, "Binary encoding", "Primitive types": int and long.
-use Rattle.std.specs.Prelude.{◌≡◌, ℕ, ◌+◌, ◌-◌, ◌*◌, ◌/◌, ◌%◌, ◌^◌, ◌<◌, ◌≤◌, ℤ, pos, negsuc, ◌<ℤ◌, ◌⊎◌, List, [], ◌∷◌, ◌++◌, length, take, All, if◌then◌else◌, ◌==◌}
+use Rattle.std.specs.Prelude.{◌≡◌, ℕ, ◌+◌, ◌-◌, ◌*◌, ◌/◌, ◌%◌, ◌^◌, ◌<◌, ◌≤◌, ℤ, pos, negsuc, ◌<ℤ◌, ◌⊎◌, List, [],
+  ◌∷◌, ◌++◌, length, take, All, if◌then◌else◌, ◌==◌}
 
 -- every byte but the last has the high bit set, and the last one has not
 abbrev pub IsGroups : List ℕ → Type 0
@@ -64,6 +65,10 @@ pub record BeginsWith (bounds : Bounds) (rest : List ℕ) (P : ℤ → List ℕ 
   pub parts : rest ≡ bytes ++ after
   pub spelled : SpellsNumber bounds bytes value
   pub such : P value after
+
+-- nothing more is said of the number and of what follows
+abbrev pub Anything : ℤ → List ℕ → Type 0
+Anything value after = Unit {0}
 
 -- no number that may stand here does, whatever comes after the rest
 abbrev pub IsTooLong : Bounds → List ℕ → Type 0

@@ -1,5 +1,6 @@
 -- What the takes answer: the item at a place, and the place after it, or the first refusal.
-use Rattle.std.specs.Prelude.{ℕ, ◌+◌, ◌-◌, ℤ, pos, negsuc, Bool, List, length, take, drop, Result, Ok, Err, nat_lt, nat_le, if◌then◌else◌}
+use Rattle.std.specs.Prelude.{ℕ, ◌+◌, ◌-◌, ℤ, pos, negsuc, Bool, List, length, take, drop, Result, Ok, Err, nat_lt,
+  nat_le, if◌then◌else◌}
 use Rattle.std.specs.List.{prefix_len}
 use Rattle.words.specs.Reading.{◌>>=◌}
 use Rattle.avro_wire.specs.declared.refusal.WireRefusal.{WireRefusal}
@@ -34,7 +35,8 @@ number_at bounds input place = do
 
 -- what lies behind a length: where it starts and where it ends
 abbrev pub range_behind : ℕ → List ℕ → ℤ × ℕ → Result (ℕ × ℕ) WireRefusal
-range_behind place input (pos n, start) = if nat_lt (length input - start) n then Err (Short place) else Ok (start, start + n)
+range_behind place input (pos n, start) =
+    if nat_lt (length input - start) n then Err (Short place) else Ok (start, start + n)
 range_behind place input (negsuc n, start) = Err (TooLong place)
 
 -- a length and that many bytes

@@ -1,7 +1,8 @@
 -- What the puts put: the fewest bytes that spell a number, and bytes behind their length.
 -- Avro 1.11, "Binary encoding", "Primitive types": int, long and bytes.
 use Rattle.std.specs.List.{flat_map}
-use Rattle.std.specs.Prelude.{ℕ, zero, suc, ◌+◌, ◌*◌, ◌/◌, ◌%◌, ℤ, pos, negsuc, List, [], ◌∷◌, ◌++◌, length, nat_lt, if◌then◌else◌}
+use Rattle.std.specs.Prelude.{ℕ, zero, suc, ◌+◌, ◌*◌, ◌/◌, ◌%◌, ℤ, pos, negsuc, List, [], ◌∷◌, ◌++◌, length, nat_lt,
+  if◌then◌else◌}
 
 -- 0, -1, 1, -2, 2, .. stand as 0, 1, 2, 3, 4, ..
 abbrev pub zigzag : ℤ → ℕ
@@ -32,4 +33,5 @@ bytes_text value = size_text value ++ value
 -- items in one block, where there are some, and then the count 0. Avro 1.11, "Arrays", "Maps"
 abbrev pub list_text : {A : Type 0} → (A → List ℕ) → List A → List ℕ
 list_text item_text [] = number_text (pos 0)
-list_text item_text (item ∷ items) = number_text (pos (length (item ∷ items))) ++ (flat_map item_text (item ∷ items) ++ number_text (pos 0))
+list_text item_text (item ∷ items) =
+    number_text (pos (length (item ∷ items))) ++ (flat_map item_text (item ∷ items) ++ number_text (pos 0))

@@ -10,7 +10,7 @@ use Rattle.words.specs.Grammar.{Joined}
 use Rattle.avro_wire.specs.Number.{long, SpellsNumber}
 use Rattle.avro_wire.specs.Reading.{number_at, range_behind, bytes_at}
 use Rattle.avro_wire.specs.Blocks.{SpellsBytes}
-use Rattle.avro_wire.proofs.Ranges.{bytes_again}
+use Rattle.avro_wire.specs.ReadingLaws.{bytes_again}
 use Rattle.datum_reading.specs.declared.cursor.Cursor.{Cursor}
 use Rattle.datum_tree.specs.declared.datum.Datum.{Datum}
 use Rattle.datum_tree.specs.declared.datum.Datum.TheVariants as datums

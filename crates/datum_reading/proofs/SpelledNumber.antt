@@ -4,7 +4,7 @@ use Rattle.std.specs.Prelude.{ℤ, pos, negsuc}
 use Rattle.words.specs.Reading.{map_value, map_refusal}
 use Rattle.avro_wire.specs.Number.{Bounds, int, SpellsNumber}
 use Rattle.avro_wire.specs.Reading.{number_at}
-use Rattle.avro_wire.proofs.Numbers.{front_cases, number_again, number_short, number_long}
+use Rattle.avro_wire.specs.ReadingLaws.{front_cases, number_again, number_short, number_long}
 use Rattle.datum_reading.specs.declared.cursor.Cursor.{Cursor}
 use Rattle.datum_reading.specs.declared.refusal.DatumRefusal.TheVariants.{Branch}
 use Rattle.datum_reading.specs.Refusal.{wire_refusal}

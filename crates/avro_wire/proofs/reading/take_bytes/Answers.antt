@@ -1,6 +1,7 @@
 use Rattle.std.proofs.Common.{sym, ◌∙◌}
 use Rattle.avro_wire.proofs.Numbers.{answers}
-use Rattle.avro_wire.proofs.Ranges.{bytes_again, bytes_found, bytes_short_iff, bytes_long_iff}
+use Rattle.avro_wire.specs.ReadingLaws.{bytes_again}
+use Rattle.avro_wire.proofs.Ranges.{bytes_found, bytes_short_iff, bytes_long_iff}
 use Rattle.avro_wire.proofs.reading.take_bytes.Goals as goal
 
 pub returns-clause-found : goal.returns-clause-found

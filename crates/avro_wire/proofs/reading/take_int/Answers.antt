@@ -1,6 +1,7 @@
 use Rattle.std.proofs.Common.{sym, ◌∙◌}
 use Rattle.avro_wire.specs.Number.{int}
-use Rattle.avro_wire.proofs.Numbers.{answers, number_again, number_found, short_iff, too_long_iff}
+use Rattle.avro_wire.specs.ReadingLaws.{number_again}
+use Rattle.avro_wire.proofs.Numbers.{answers, number_found, short_iff, too_long_iff}
 use Rattle.avro_wire.proofs.reading.take_int.Goals as goal
 
 pub returns-clause-found : goal.returns-clause-found

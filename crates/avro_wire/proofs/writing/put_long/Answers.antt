@@ -5,7 +5,8 @@ use Rattle.std.specs.Prelude.{FitsSigned}
 use Rattle.avro_wire.specs.Number.{long}
 use Rattle.avro_wire.specs.Writing.{zigzag}
 use Rattle.avro_wire.proofs.PutSteps.{appended}
-use Rattle.avro_wire.proofs.WritingLemmas.{long_spelled, number_shortest}
+use Rattle.avro_wire.specs.WritingLaws.{long_spelled}
+use Rattle.avro_wire.proofs.WritingLemmas.{number_shortest}
 use Rattle.avro_wire.proofs.writing.put_long.Goals as goal
 
 pub returns-clause-ok : goal.returns-clause-ok
