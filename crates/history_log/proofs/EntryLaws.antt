@@ -11,8 +11,10 @@ use Rattle.history_types.specs.Fits.{AreRuns, FitsEntry}
 use Rattle.pieces.specs.declared.refusal.PieceRefusal.{PieceRefusal}
 use Rattle.pieces.specs.Word.{spaces, gap_at}
 use Rattle.pieces.specs.Number.{unsigned_at, optional_long_at, optional_text}
-use Rattle.pieces.proofs.WordLaws.{behind, word_again, gap_again, no_space_first}
-use Rattle.pieces.proofs.NumberLaws.{is_long_or_none, no_digit_first, unsigned_again, optional_long_again, unsigned_no_space, optional_no_space}
+use Rattle.words.specs.Parts.{behind_is}
+use Rattle.pieces.specs.WordLaws.{word_again, gap_again, no_space_first}
+use Rattle.pieces.specs.Decimal.{is_long_or_none}
+use Rattle.pieces.specs.NumberLaws.{no_digit_first, unsigned_again, optional_long_again, unsigned_no_space, optional_no_space}
 use Rattle.history_log.specs.Runs.{runs_text, runs_at}
 use Rattle.history_log.specs.Request.{request_text}
 use Rattle.history_log.specs.Entry.{spaced, before_gap, entry_text, entry_of}
@@ -29,12 +31,12 @@ apart piece input rest place e = e ∙ append_assoc piece (codes " ") rest
 
 -- what stands behind the space
 next_piece : (piece input rest : List ℕ) (place : ℕ) → drop place input ≡ spaced piece ++ rest → drop (place + length (spaced piece)) input ≡ rest
-next_piece piece input rest place e = behind (spaced piece) input rest place e
+next_piece piece input rest place e = behind_is input place (spaced piece) rest e
 
 -- the space behind a piece is its gap
 gap_there : (piece input rest : List ℕ) (place : ℕ) → drop place input ≡ spaced piece ++ rest → spaces rest ≡ 0 → gap_at input (place + length piece) ≡ Ok (place + length (spaced piece))
 gap_there piece input rest place e none =
-    let there = behind piece input (32 ∷ rest) place (apart piece input rest place e) in
+    let there = behind_is input place piece (32 ∷ rest) (apart piece input rest place e) in
     let size : place + length piece + 1 ≡ place + length (spaced piece) = omega (arith, length-append piece (codes " ")) in
     gap_again input rest (place + length piece) there none ∙ ap Ok size
 
@@ -135,8 +137,8 @@ entry_again columns entry fits =
     let text = entry_text entry in
     let behind_ids = request_text entry.request in
     let whole : drop 0 text ≡ numbers_text entry ++ (ids_text entry ++ behind_ids) = entry_parts entry in
-    let at_ids = behind (numbers_text entry) text (ids_text entry ++ behind_ids) 0 whole in
-    let at_request = behind (ids_text entry) text behind_ids (0 + length (numbers_text entry)) at_ids in
+    let at_ids = behind_is text 0 (numbers_text entry) (ids_text entry ++ behind_ids) whole in
+    let at_request = behind_is text (0 + length (numbers_text entry)) (ids_text entry) behind_ids at_ids in
     let no_ids = ap spaces (append_assoc (spaced (runs_text entry.named)) (spaced (runs_text entry.given)) behind_ids) ∙ spaced_runs_no_space entry.named (spaced (runs_text entry.given) ++ behind_ids) fits.named in
     let one = numbers_again entry text (ids_text entry ++ behind_ids) fits.who (long_or_none entry.seq fits.seq) (long_or_none entry.next fits.next) whole no_ids in
     let two = ids_again entry text behind_ids (0 + length (numbers_text entry)) fits.named fits.given at_ids (request_no_space entry.request) in

@@ -81,7 +81,10 @@ behind_ids columns text numbers ids first second =
     behind_numbers columns text numbers first ∙ ap (λ (r : Result Ids HistoryRefusal). r >>= request_behind_ids columns text numbers) second
 
 -- the request is refused
-pub request_refused : (columns : List Column) (text : List ℕ) (numbers : Numbers) (ids : Ids) (refusal : HistoryRefusal) → Ok numbers ≡ numbers_at text → ids_at text numbers.3 ≡ Ok ids → OnFalse (is_memory refusal) (request_at columns text ids.2 ≡ Err refusal) → OnFalse (is_memory refusal) (entry_of columns text ≡ Err refusal)
+pub request_refused : (columns : List Column) (text : List ℕ) (numbers : Numbers) (ids : Ids)
+    (refusal : HistoryRefusal) → Ok numbers ≡ numbers_at text → ids_at text numbers.3 ≡ Ok ids
+    → OnFalse (is_memory refusal) (request_at columns text ids.2 ≡ Err refusal) → OnFalse (is_memory refusal)
+    (entry_of columns text ≡ Err refusal)
 request_refused columns text numbers ids refusal first second third =
     refused_so (is_memory refusal) (λ refused. behind_ids columns text numbers ids first second ∙ ap (λ (r : Result Request HistoryRefusal). r >>= λ request. Ok (whole numbers ids request)) refused) third
 

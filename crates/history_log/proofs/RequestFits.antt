@@ -17,10 +17,10 @@ use Rattle.pieces.specs.declared.refusal.PieceRefusal.TheVariants.{Syntax}
 use Rattle.pieces.specs.Word.{one_of, gap_at, mark_at, end_at}
 use Rattle.pieces.specs.Literal.{literal_at}
 use Rattle.pieces.specs.Many.{many}
-use Rattle.pieces.proofs.ManyFits.{many_keep, many_some}
-use Rattle.pieces.proofs.ReadLaws.{if_any, if_viewed, if_renamed, if_then, if_failed}
+use Rattle.pieces.specs.ManyLaws.{many_keep, many_some}
+use Rattle.words.specs.Holds.{if_any, if_viewed, if_renamed, if_then, if_failed}
 use Rattle.row_pred.specs.Cells.{cells_at}
-use Rattle.row_pred.proofs.FitLaws.{cells_fit}
+use Rattle.row_pred.specs.FitLaws.{cells_fit}
 use Rattle.history_log.specs.Refusal.{of_piece, of_cells}
 use Rattle.history_log.specs.Request.{request_words, or_end, row_at, rows_at, is_repeated, new_path, path_at, paths_at, paths_or_end, request_behind, request_at}
 

@@ -17,12 +17,14 @@ use Rattle.history_types.specs.Fits.{FitsRequest}
 use Rattle.pieces.specs.declared.refusal.PieceRefusal.{PieceRefusal}
 use Rattle.pieces.specs.Word.{spaces, after_spaces, byte_at, gap_at, mark_at}
 use Rattle.pieces.specs.Literal.{literal_text}
-use Rattle.pieces.proofs.WordLaws.{behind, byte_again, no_space_first, gap_again, mark_again, end_again, one_of_again}
-use Rattle.pieces.proofs.LiteralLaws.{literal_again}
+use Rattle.words.specs.Parts.{behind_is}
+use Rattle.pieces.specs.WordLaws.{byte_again, no_space_first, gap_again, mark_again, end_again}
+use Rattle.pieces.specs.ChoiceLaws.{one_of_again}
+use Rattle.pieces.specs.LiteralLaws.{literal_again}
 use Rattle.row_pred.specs.Cell.{cell_text}
 use Rattle.row_pred.specs.Cells.{spaced_text, cells_text, cells_from}
-use Rattle.row_pred.proofs.CellLaws.{cell_no_space}
-use Rattle.row_pred.proofs.CellsLaws.{cells_again}
+use Rattle.row_pred.specs.CellLaws.{cell_no_space}
+use Rattle.row_pred.specs.CellsLaws.{cells_again}
 use Rattle.history_log.specs.Request.{next_row_text, rows_text, next_path_text, request_text, request_words, or_end, rows_at, is_repeated, path_at, paths_at, request_behind, request_at, request_of}
 use Rattle.history_log.proofs.RequestSteps.{RowsFrom, rows_start, rows_on, rows_done, PathsFrom, paths_start, paths_on, paths_done}
 
@@ -91,10 +93,10 @@ paths_again (other ∷ paths) path read input place at from fresh e =
     let after = at + length (literal_text path) in
     let size = left_size input (literal_text path ++ 32 ∷ more) at (omega arith) e in
     let parts = length-append (literal_text path) (32 ∷ more) in
-    let next : drop after input ≡ 32 ∷ more = behind (literal_text path) input (32 ∷ more) at e in
+    let next : drop after input ≡ 32 ∷ more = behind_is input at (literal_text path) (32 ∷ more) e in
     let none : spaces more ≡ 0 = let quote : 34 ≢ 32 = omega arith in no_space_first 34 _ quote in
     let gap : gap_at input after ≡ Ok (after + 1) = gap_read input more after next ∙ ap (λ (n : ℕ). Ok n) (omega arith) in
-    let here : drop (after + 1) input ≡ more = behind (32 ∷ []) input more after next in
+    let here : drop (after + 1) input ≡ more = behind_is input after (32 ∷ []) more next in
     let on = paths_on input place read path at after (after + 1) from (omega arith) (path_again read path input (32 ∷ more) at fresh.0 e) (some_next gap_at input after (after + 1) (omega arith) gap) (omega arith) in
     paths_again paths other (read ++ path ∷ []) input place (after + 1) on fresh.1 here ∙ ap Ok (append_assoc read (path ∷ []) (other ∷ paths))
 
@@ -121,10 +123,10 @@ rows_again (other ∷ rows) row read column columns input place at from is all e
     let is_other = All-head (IsRow (column ∷ columns)) other rows all in
     let parts : length (cells_text row ++ 32 ∷ 59 ∷ 32 ∷ more) ≡ length (cells_text row) + suc (suc (suc (length more))) = length-append (cells_text row) (32 ∷ 59 ∷ 32 ∷ more) in
     let whole : at + length (cells_text row ++ 32 ∷ 59 ∷ 32 ∷ more) ≡ length input = size in
-    let next : drop after input ≡ 32 ∷ 59 ∷ 32 ∷ more = behind (cells_text row) input (32 ∷ 59 ∷ 32 ∷ more) at e in
+    let next : drop after input ≡ 32 ∷ 59 ∷ 32 ∷ more = behind_is input at (cells_text row) (32 ∷ 59 ∷ 32 ∷ more) e in
     let other_mark : 59 ≢ 32 = omega arith in
     let mark = mark_again 59 input more after next other_mark (row_no_space column columns other (flat_map next_row_text rows) is_other.0) in
-    let here : drop (after + 3) input ≡ more = behind (32 ∷ 59 ∷ 32 ∷ []) input more after next in
+    let here : drop (after + 3) input ≡ more = behind_is input after (32 ∷ 59 ∷ 32 ∷ []) more next in
     let on = rows_on (column ∷ columns) input place read row at after (after + 3) from (omega arith) (cells_again (column ∷ columns) row input (32 ∷ 59 ∷ 32 ∷ more) at is e refl) (some_next (mark_at 59) input after (after + 3) (omega arith) mark) (omega arith) in
     rows_again rows other (read ++ row ∷ []) column columns input place (after + 3) on is_other (All-tail (IsRow (column ∷ columns)) other rows all) here (omega arith) ∙ ap Ok (append_assoc read (row ∷ []) (other ∷ rows))
 
@@ -153,7 +155,7 @@ mark_read : (input rest : List ℕ) (place : ℕ) → drop place input ≡ 59 �
 unfolding spaces
 mark_read input rest place e =
     let none : after_spaces input place ≡ place = ap (λ (l : List ℕ). place + spaces l) e ∙ omega arith in
-    let next : drop (place + 1) input ≡ 32 ∷ rest = behind (59 ∷ []) input (32 ∷ rest) place e in
+    let next : drop (place + 1) input ≡ 32 ∷ rest = behind_is input place (59 ∷ []) (32 ∷ rest) e in
     let size : place + 1 + suc (spaces rest) ≡ place + 2 + spaces rest = omega arith in
     ap (λ (start : ℕ). byte_at 59 input start >>= λ after. Ok (after_spaces input after)) none
     ∙ (ap (λ (r : Result ℕ PieceRefusal). r >>= λ after. Ok (after_spaces input after)) (byte_again 59 input (32 ∷ rest) place e)
@@ -175,7 +177,7 @@ empty_rows_again (row ∷ rows) read input place at from all e size =
     let start = at + 2 + spaces others in
     let next = e ∙ this in
     let whole = ap length this in
-    let behind_mark : drop (at + 2) input ≡ others = behind (59 ∷ 32 ∷ []) input others at next in
+    let behind_mark : drop (at + 2) input ≡ others = behind_is input at (59 ∷ 32 ∷ []) others next in
     let here : drop start input ≡ left_of rows = sym (drop-drop (spaces others) (at + 2) input) ∙ (ap (drop (spaces others)) behind_mark ∙ space_before rows) in
     let parts = space_size rows in
     let on = rows_on [] input place read [] at at start from (omega arith) refl (some_next (mark_at 59) input at start (omega arith) (mark_read input others at next)) (omega arith) in
@@ -191,7 +193,7 @@ append_again [] row rows input place all e =
     let others = flat_map next_row_text rows in
     let this : drop place input ≡ 32 ∷ others = e ∙ ap (λ (cells : List Cell). 32 ∷ rows_text (cells ∷ rows)) none in
     let start = place + 1 + spaces others in
-    let behind_space : drop (place + 1) input ≡ others = behind (32 ∷ []) input others place this in
+    let behind_space : drop (place + 1) input ≡ others = behind_is input place (32 ∷ []) others this in
     let here : drop start input ≡ left_of rows = sym (drop-drop (spaces others) (place + 1) input) ∙ (ap (drop (spaces others)) behind_space ∙ space_before rows) in
     let whole = left_size input (32 ∷ others) place (omega arith) this in
     let parts = space_size rows in
@@ -201,20 +203,23 @@ append_again (column ∷ columns) row rows input place all e =
     let text = rows_text (row ∷ rows) in
     let is = All-head (IsRow (column ∷ columns)) row rows all in
     let gap = gap_again input text place e (row_no_space column columns row (flat_map next_row_text rows) is.0) in
-    let here : drop (place + 1) input ≡ text = behind (32 ∷ []) input text place e in
+    let here : drop (place + 1) input ≡ text = behind_is input place (32 ∷ []) text e in
     let whole = left_size input (32 ∷ text) place (omega arith) e in
     let read = rows_again rows row [] column columns input (place + 1) (place + 1) (rows_start (column ∷ columns) input (place + 1)) is (All-tail (IsRow (column ∷ columns)) row rows all) here (omega arith) in
     rw (gap, read) refl
 
 -- the paths of a compaction, behind its word
-compact_again : (columns : List Column) (paths : List (List ℕ)) (input : List ℕ) (place : ℕ) → AllPairs (λ a b. a ≢ b) paths → drop place input ≡ flat_map next_path_text paths → place + length (flat_map next_path_text paths) ≡ length input → request_behind columns input (1, place) ≡ Ok (Compact paths)
+compact_again : (columns : List Column) (paths : List (List ℕ)) (input : List ℕ) (place : ℕ)
+    → AllPairs (λ a b. a ≢ b) paths → drop place input ≡ flat_map next_path_text paths
+    → place + length (flat_map next_path_text paths) ≡ length input
+    → request_behind columns input (1, place) ≡ Ok (Compact paths)
 compact_again columns [] input place distinct e size = rw (none_next gap_at input place (omega arith)) refl
 compact_again columns (path ∷ paths) input place distinct e size =
     let text = literal_text path ++ flat_map next_path_text paths in
     let next : drop place input ≡ 32 ∷ text = e in
     let quote : 34 ≢ 32 = omega arith in
     let gap : gap_at input place ≡ Ok (place + 1) = gap_again input text place next (no_space_first 34 _ quote) in
-    let here : drop (place + 1) input ≡ text = behind (32 ∷ []) input text place next in
+    let here : drop (place + 1) input ≡ text = behind_is input place (32 ∷ []) text next in
     let whole : place + suc (length text) ≡ length input = size in
     let read = paths_again paths path [] input (place + 1) (place + 1) (paths_start input (place + 1)) (all_new [] (path ∷ paths) distinct) here in
     rw (some_next gap_at input place (place + 1) (omega arith) gap, read) refl
@@ -226,12 +231,12 @@ request_again columns (Append []) input place fit e = absurd (fit.0 refl)
 request_again columns (Append (row ∷ rows)) input place fit e =
     let text = 32 ∷ rows_text (row ∷ rows) in
     let word = one_of_again request_words 0 (codes "append") input text place refl refl e in
-    let next : drop (place + 6) input ≡ text = behind (codes "append") input text place e in
+    let next : drop (place + 6) input ≡ text = behind_is input place (codes "append") text e in
     rw word (append_again columns row rows input (place + 6) fit.1 next)
 request_again columns (Compact paths) input place fit e =
     let text = flat_map next_path_text paths in
     let word = one_of_again request_words 1 (codes "compact") input text place refl refl e in
-    let next : drop (place + 7) input ≡ text = behind (codes "compact") input text place e in
+    let next : drop (place + 7) input ≡ text = behind_is input place (codes "compact") text e in
     let whole = left_size input (codes "compact" ++ text) place (omega arith) e in
     rw word (compact_again columns paths input (place + 7) fit next (omega arith))
 request_again columns Upgrade input place fit e =

@@ -11,8 +11,8 @@ use Rattle.pieces.specs.declared.refusal.PieceRefusal.{PieceRefusal}
 use Rattle.pieces.specs.Word.{byte_at, one_of, gap_at, mark_at}
 use Rattle.pieces.specs.Many.{many}
 use Rattle.pieces.specs.Literal.{unescaped, is_never_raw, rest_at, literal_at}
-use Rattle.pieces.proofs.LiteralSteps.{byte_stands}
-use Rattle.pieces.proofs.ManyLaws.{ManyFrom, many_from_start, many_on, many_done, many_refused, many_stopped}
+use Rattle.pieces.specs.WordLaws.{byte_stands}
+use Rattle.pieces.specs.ManyLaws.{ManyFrom, many_from_start, many_on, many_done, many_refused, many_stopped}
 use Rattle.row_pred.specs.declared.refusal.PredRefusal.{PredRefusal}
 use Rattle.row_pred.specs.declared.refusal.PredRefusal.TheVariants as cells
 use Rattle.row_pred.specs.Refusal.{is_memory as is_memory_of_cells}
@@ -46,17 +46,26 @@ row_read : (columns : List Column) (text : List ℕ) (rows : List (List Cell)) (
 row_read columns text rows row at after read = ap (map_refusal of_cells) read
 
 -- it is not the last one
-pub rows_on : (columns : List Column) (text : List ℕ) (place : ℕ) (rows : List (List Cell)) (row : List Cell) (at after start : ℕ) → RowsFrom columns text place rows at → at ≤ length text → cells_at columns text at ≡ Ok (row, after) → or_end (mark_at 59) text after ≡ Ok (Some start) → at < start → RowsFrom columns text place (rows ++ row ∷ []) start
+pub rows_on : (columns : List Column) (text : List ℕ) (place : ℕ) (rows : List (List Cell)) (row : List Cell)
+    (at after start : ℕ) → RowsFrom columns text place rows at → at ≤ length text
+    → cells_at columns text at ≡ Ok (row, after) → or_end (mark_at 59) text after ≡ Ok (Some start) → at < start
+    → RowsFrom columns text place (rows ++ row ∷ []) start
 rows_on columns text place rows row at after start from within read next further =
     many_on (row_at columns text) (or_end (mark_at 59) text) (length text) rows at (rows_in columns text place) row after start from within (row_read columns text rows row at after read) next further
 
 -- it is the last one
-pub rows_done : (columns : List Column) (text : List ℕ) (place : ℕ) (rows : List (List Cell)) (row : List Cell) (at after : ℕ) → RowsFrom columns text place rows at → at ≤ length text → cells_at columns text at ≡ Ok (row, after) → or_end (mark_at 59) text after ≡ Ok None → rows_at columns text place ≡ Ok (rows ++ row ∷ [])
+pub rows_done : (columns : List Column) (text : List ℕ) (place : ℕ) (rows : List (List Cell)) (row : List Cell)
+    (at after : ℕ) → RowsFrom columns text place rows at → at ≤ length text
+    → cells_at columns text at ≡ Ok (row, after) → or_end (mark_at 59) text after ≡ Ok None
+    → rows_at columns text place ≡ Ok (rows ++ row ∷ [])
 rows_done columns text place rows row at after from within read next =
     ap items_of (many_done (row_at columns text) (or_end (mark_at 59) text) (length text) rows at (rows_in columns text place) row after from within (row_read columns text rows row at after read) next)
 
 -- it does not end there
-pub rows_stopped : (columns : List Column) (text : List ℕ) (place : ℕ) (rows : List (List Cell)) (row : List Cell) (at after : ℕ) (refusal : HistoryRefusal) → RowsFrom columns text place rows at → at ≤ length text → cells_at columns text at ≡ Ok (row, after) → or_end (mark_at 59) text after ≡ Err refusal → rows_at columns text place ≡ Err refusal
+pub rows_stopped : (columns : List Column) (text : List ℕ) (place : ℕ) (rows : List (List Cell)) (row : List Cell)
+    (at after : ℕ) (refusal : HistoryRefusal) → RowsFrom columns text place rows at → at ≤ length text
+    → cells_at columns text at ≡ Ok (row, after) → or_end (mark_at 59) text after ≡ Err refusal
+    → rows_at columns text place ≡ Err refusal
 rows_stopped columns text place rows row at after refusal from within read next =
     ap items_of (many_stopped (row_at columns text) (or_end (mark_at 59) text) (length text) rows at (rows_in columns text place) row after refusal from within (row_read columns text rows row at after read) next)
 
@@ -66,7 +75,10 @@ cells_refused columns text place rows at refusal from within refused =
     ap items_of (many_refused (row_at columns text) (or_end (mark_at 59) text) (length text) rows at (rows_in columns text place) (of_cells refusal) from within (ap (map_refusal of_cells) refused))
 
 -- the same, where memory may have run out
-pub rows_refused : (columns : List Column) (text : List ℕ) (place : ℕ) (rows : List (List Cell)) (at : ℕ) (refusal : PredRefusal) → RowsFrom columns text place rows at → at ≤ length text → OnFalse (is_memory_of_cells refusal) (cells_at columns text at ≡ Err refusal) → OnFalse (is_memory (of_cells refusal)) (rows_at columns text place ≡ Err (of_cells refusal))
+pub rows_refused : (columns : List Column) (text : List ℕ) (place : ℕ) (rows : List (List Cell)) (at : ℕ)
+    (refusal : PredRefusal) → RowsFrom columns text place rows at → at ≤ length text
+    → OnFalse (is_memory_of_cells refusal) (cells_at columns text at ≡ Err refusal)
+    → OnFalse (is_memory (of_cells refusal)) (rows_at columns text place ≡ Err (of_cells refusal))
 rows_refused columns text place rows at cells.Memory from within refused = tt
 rows_refused columns text place rows at (cells.Syntax p) from within refused = cells_refused columns text place rows at (cells.Syntax p) from within refused
 rows_refused columns text place rows at (cells.Name n) from within refused = cells_refused columns text place rows at (cells.Name n) from within refused
@@ -88,7 +100,9 @@ pub paths_start : (text : List ℕ) (place : ℕ) → PathsFrom text place [] pl
 paths_start text place = many_from_start (path_at text) (or_end gap_at text) (length text) place
 
 -- a path was read, and it is not the last one
-pub paths_on : (text : List ℕ) (place : ℕ) (paths : List (List ℕ)) (path : List ℕ) (at after start : ℕ) → PathsFrom text place paths at → at ≤ length text → path_at text paths at ≡ Ok (path, after) → or_end gap_at text after ≡ Ok (Some start) → at < start → PathsFrom text place (paths ++ path ∷ []) start
+pub paths_on : (text : List ℕ) (place : ℕ) (paths : List (List ℕ)) (path : List ℕ) (at after start : ℕ)
+    → PathsFrom text place paths at → at ≤ length text → path_at text paths at ≡ Ok (path, after)
+    → or_end gap_at text after ≡ Ok (Some start) → at < start → PathsFrom text place (paths ++ path ∷ []) start
 paths_on text place paths path at after start from within read next further =
     many_on (path_at text) (or_end gap_at text) (length text) paths at (paths_in text place) path after start from within read next further
 
@@ -115,7 +129,10 @@ unfolding request_at
 request_refused columns text place refusal refused = refused_for_certain (is_memory (of_piece refusal)) (rw refused refl)
 
 -- a word was read
-pub request_read : (lent columns : List Column) (text : List ℕ) (place index after : ℕ) (result : Result Request HistoryRefusal) → lent ≡ columns → one_of request_words text place ≡ Ok (index, after) → Gives is_memory (λ request. request) result (request_behind lent text (index, after)) → Gives is_memory (λ request. request) result (request_at columns text place)
+pub request_read : (lent columns : List Column) (text : List ℕ) (place index after : ℕ)
+    (result : Result Request HistoryRefusal) → lent ≡ columns → one_of request_words text place ≡ Ok (index, after)
+    → Gives is_memory (λ request. request) result (request_behind lent text (index, after))
+    → Gives is_memory (λ request. request) result (request_at columns text place)
 unfolding request_at
 request_read lent columns text place index after result same read h =
     let word : request_at columns text place ≡ request_behind columns text (index, after) = rw read refl in

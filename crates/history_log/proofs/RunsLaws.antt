@@ -13,8 +13,9 @@ use Rattle.history_types.specs.Fits.{IsRun, AreRuns}
 use Rattle.pieces.specs.declared.refusal.PieceRefusal.{PieceRefusal}
 use Rattle.pieces.specs.Word.{is_this, byte_at, spaces}
 use Rattle.pieces.specs.Number.{digits, begins, Signed, count_at, is_absent}
-use Rattle.pieces.proofs.WordLaws.{stands_first, behind, is_this_again, is_this_other, byte_again, no_space_first}
-use Rattle.pieces.proofs.NumberLaws.{no_digit_first, signed_again, count_again, not_absent, long_no_space}
+use Rattle.pieces.specs.WordLaws.{stands_first, is_this_again, is_this_other, byte_again, no_space_first}
+use Rattle.words.specs.Parts.{behind_is}
+use Rattle.pieces.specs.NumberLaws.{no_digit_first, signed_again, count_again, not_absent, long_no_space}
 use Rattle.history_log.specs.Runs.{run_text, next_run_text, runs_text, goes_on, first_of, first_at, run_at, runs_at}
 use Rattle.history_log.proofs.RunsLemmas.{RunsFrom, no_runs, runs_begin, runs_on, runs_done}
 
@@ -26,8 +27,8 @@ run_again run read input rest place is apart e none =
     let first = signed_decimal run.first in
     let count = signed_decimal run.count in
     let whole : drop place input ≡ first ++ (43 ∷ (count ++ rest)) = e ∙ append_assoc first (43 ∷ count) rest in
-    let at_plus : drop (place + length first) input ≡ 43 ∷ (count ++ rest) = behind first input (43 ∷ (count ++ rest)) place whole in
-    let at_count : drop (place + length first + 1) input ≡ count ++ rest = behind (43 ∷ []) input (count ++ rest) (place + length first) at_plus in
+    let at_plus : drop (place + length first) input ≡ 43 ∷ (count ++ rest) = behind_is input place first (43 ∷ (count ++ rest)) whole in
+    let at_count : drop (place + length first + 1) input ≡ count ++ rest = behind_is input (place + length first) (43 ∷ []) (count ++ rest) at_plus in
     let one : first_at input read place ≡ Ok (run.first, place + length first) = ap (λ (r : Result Signed PieceRefusal). r >>= first_of read) (signed_again run.first input (43 ∷ (count ++ rest)) place is.first whole (no_digit_first 43 (count ++ rest) refl)) in
     let plus : byte_at 43 input (place + length first) ≡ Ok (place + length first + 1) = byte_again 43 input (count ++ rest) (place + length first) at_plus in
     let two : count_at input (place + length first + 1) ≡ Ok (run.count, place + length first + 1 + length count) = count_again run.count input rest (place + length first + 1) is.some is.count at_count none in
@@ -63,7 +64,7 @@ runs_from_again run [] read input rest place total are apart e from =
     let whole : drop place input ≡ run_text run ++ 32 ∷ rest = e ∙ append_assoc (run_text run) [] (32 ∷ rest) in
     let after = place + length (run_text run) in
     let one = run_again run read input (32 ∷ rest) place are apart whole (no_digit_first 32 rest refl) in
-    let stop = is_this_other 44 32 input rest after (omega arith) (behind (run_text run) input (32 ∷ rest) place whole) in
+    let stop = is_this_other 44 32 input rest after (omega arith) (behind_is input place (run_text run) (32 ∷ rest) whole) in
     let within = inside input (run_text run ++ 32 ∷ rest) place whole (omega (arith, length-append (run_text run) (32 ∷ rest))) in
     let size : after ≡ place + length (runs_text (run ∷ [])) = omega (arith, length-append (run_text run) []) in
     runs_done input read place after run total from within one stop ∙ ap (λ (n : ℕ). Ok (read ++ run ∷ [], n)) size
@@ -72,9 +73,9 @@ runs_from_again run (next ∷ runs) read input rest place total are apart e from
     let whole : drop place input ≡ run_text run ++ 44 ∷ (others ++ 32 ∷ rest) = e ∙ append_assoc (run_text run) (44 ∷ others) (32 ∷ rest) in
     let after = place + length (run_text run) in
     let one = run_again run read input (44 ∷ (others ++ 32 ∷ rest)) place are.0 apart whole (no_digit_first 44 (others ++ 32 ∷ rest) refl) in
-    let at_comma : drop after input ≡ 44 ∷ (others ++ 32 ∷ rest) = behind (run_text run) input (44 ∷ (others ++ 32 ∷ rest)) place whole in
+    let at_comma : drop after input ≡ 44 ∷ (others ++ 32 ∷ rest) = behind_is input place (run_text run) (44 ∷ (others ++ 32 ∷ rest)) whole in
     let comma = is_this_again 44 input (others ++ 32 ∷ rest) after at_comma in
-    let at_next : drop (after + 1) input ≡ others ++ 32 ∷ rest = behind (44 ∷ []) input (others ++ 32 ∷ rest) after at_comma in
+    let at_next : drop (after + 1) input ≡ others ++ 32 ∷ rest = behind_is input after (44 ∷ []) (others ++ 32 ∷ rest) at_comma in
     let within = inside input (run_text run ++ 44 ∷ (others ++ 32 ∷ rest)) place whole (omega (arith, length-append (run_text run) (44 ∷ (others ++ 32 ∷ rest)))) in
     let on = runs_on input read place after run total from within (omega arith) one comma in
     let all = runs_from_again next runs (read ++ run ∷ []) input rest (after + 1) total are.2 (apart_behind read run next are.1) at_next on in
@@ -100,7 +101,7 @@ first_id run runs rest =
 pub runs_again : (runs : List Run) (input rest : List ℕ) (place : ℕ) → AreRuns runs → drop place input ≡ runs_text runs ++ 32 ∷ rest → runs_at input place ≡ Ok (runs, place + length (runs_text runs))
 runs_again [] input rest place are e =
     let sign : is_this 45 (slice_get input place) ≡ true = is_this_again 45 input (32 ∷ rest) place e in
-    let alone : begins (slice_get input (place + 1)) ≡ false = ap begins (stands_first 32 input rest (place + 1) (behind (45 ∷ []) input (32 ∷ rest) place e)) in
+    let alone : begins (slice_get input (place + 1)) ≡ false = ap begins (stands_first 32 input rest (place + 1) (behind_is input place (45 ∷ []) (32 ∷ rest) e)) in
     let absent : is_absent input place ≡ true = rw (sign, alone) refl in
     no_runs input place absent
 runs_again (run ∷ runs) input rest place are e =

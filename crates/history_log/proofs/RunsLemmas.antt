@@ -7,8 +7,8 @@ use Rattle.history_types.specs.declared.entry.Run.{Run}
 use Rattle.pieces.specs.declared.refusal.PieceRefusal.{PieceRefusal}
 use Rattle.pieces.specs.Word.{is_this}
 use Rattle.pieces.specs.Number.{is_absent}
-use Rattle.pieces.proofs.WordLemmas.{is_this_within}
-use Rattle.pieces.proofs.ManyLaws.{ManyFrom, many_from_start, many_on, many_done, many_refused}
+use Rattle.pieces.specs.WordLaws.{is_this_within}
+use Rattle.pieces.specs.ManyLaws.{ManyFrom, many_from_start, many_on, many_done, many_refused}
 use Rattle.history_log.specs.Runs.{goes_on, run_at, comma_at, runs_at}
 
 -- ---- the last of the runs
@@ -56,13 +56,19 @@ pub run_behind : (input : List ℕ) (lent read : List Run) (place : ℕ) (result
 run_behind input lent read place result same h = sym (h ∙ ap (λ (runs : List Run). run_at input runs place) same)
 
 -- a run was read, and a comma stands behind it
-pub runs_on : (input : List ℕ) (read : List Run) (place after : ℕ) (run : Run) (total : Result (List Run × ℕ) PieceRefusal) → RunsFrom input read place total → place ≤ length input → place ≤ after → run_at input read place ≡ Ok (run, after) → is_this 44 (slice_get input after) ≡ true → RunsFrom input (read ++ run ∷ []) (after + 1) total
+pub runs_on : (input : List ℕ) (read : List Run) (place after : ℕ) (run : Run)
+    (total : Result (List Run × ℕ) PieceRefusal) → RunsFrom input read place total → place ≤ length input
+    → place ≤ after → run_at input read place ≡ Ok (run, after) → is_this 44 (slice_get input after) ≡ true
+    → RunsFrom input (read ++ run ∷ []) (after + 1) total
 runs_on input read place after run total from within later one comma =
     let more : comma_at input after ≡ Ok (Some (after + 1)) = rw comma refl in
     many_on (run_at input) (comma_at input) (length input) read place total run after (after + 1) from within one more (omega arith)
 
 -- the last run was read
-pub runs_done : (input : List ℕ) (read : List Run) (place after : ℕ) (run : Run) (total : Result (List Run × ℕ) PieceRefusal) → RunsFrom input read place total → place ≤ length input → run_at input read place ≡ Ok (run, after) → is_this 44 (slice_get input after) ≡ false → total ≡ Ok (read ++ run ∷ [], after)
+pub runs_done : (input : List ℕ) (read : List Run) (place after : ℕ) (run : Run)
+    (total : Result (List Run × ℕ) PieceRefusal) → RunsFrom input read place total → place ≤ length input
+    → run_at input read place ≡ Ok (run, after) → is_this 44 (slice_get input after) ≡ false
+    → total ≡ Ok (read ++ run ∷ [], after)
 runs_done input read place after run total from within one stop =
     let last : comma_at input after ≡ Ok None = rw stop refl in
     many_done (run_at input) (comma_at input) (length input) read place total run after from within one last

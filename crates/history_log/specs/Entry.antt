@@ -1,4 +1,5 @@
--- Entries as they stand in a text: the word, whose commit it is, its sequence number, the next id, the named and the given ids, and the request.
+-- Entries as they stand in a text: the word, whose commit it is, its sequence number, the next id, the named and
+-- the given ids, and the request.
 use Rattle.std.specs.Prelude.{ℕ, List, ◌++◌, Result, Ok, codes, decimal}
 use Rattle.words.specs.Reading.{◌>>=◌, map_refusal}
 use Rattle.row_types.specs.declared.column.Column.{Column}
@@ -19,7 +20,9 @@ spaced piece = piece ++ codes " "
 
 -- the one text of an entry, without LF
 abbrev pub entry_text : Entry → List ℕ
-entry_text entry = spaced (codes "entry") ++ (spaced (decimal entry.who) ++ (spaced (optional_text entry.seq) ++ (spaced (optional_text entry.next)
+entry_text entry =
+    spaced (codes "entry")
+    ++ (spaced (decimal entry.who) ++ (spaced (optional_text entry.seq) ++ (spaced (optional_text entry.next)
     ++ (spaced (runs_text entry.named) ++ (spaced (runs_text entry.given) ++ request_text entry.request)))))
 
 -- ---- as they are read

@@ -15,7 +15,9 @@ use Rattle.history_log.specs.Entry.{spaced, before_gap}
 
 -- the word and the numbers, each with a space behind it
 abbrev pub numbers_text : Entry → List ℕ
-numbers_text entry = spaced (codes "entry") ++ (spaced (decimal entry.who) ++ (spaced (optional_text entry.seq) ++ spaced (optional_text entry.next)))
+numbers_text entry =
+    spaced (codes "entry")
+    ++ (spaced (decimal entry.who) ++ (spaced (optional_text entry.seq) ++ spaced (optional_text entry.next)))
 
 -- the named and the given ids, each with a space behind them
 abbrev pub ids_text : Entry → List ℕ

@@ -1,5 +1,6 @@
 -- Requests as they stand in a text.
-use Rattle.std.specs.Prelude.{ℕ, zero, suc, ◌+◌, ◌-◌, ◌==◌, Bool, List, [], ◌∷◌, ◌++◌, length, Option, Some, None, Result, Ok, Err, codes, if◌then◌else◌}
+use Rattle.std.specs.Prelude.{ℕ, zero, suc, ◌+◌, ◌-◌, ◌==◌, Bool, List, [], ◌∷◌, ◌++◌, length, Option, Some, None,
+  Result, Ok, Err, codes, if◌then◌else◌}
 use Rattle.std.specs.List.{flat_map, list_any}
 use Rattle.std.specs.Str.{bytes_eq}
 use Rattle.words.specs.Reading.{◌>>=◌, map_refusal, map_value}
@@ -45,7 +46,8 @@ request_words = codes "append" ∷ codes "compact" ∷ codes "upgrade" ∷ []
 
 -- whether the text ends here, or where the next item begins
 abbrev pub or_end : (List ℕ → ℕ → Result ℕ PieceRefusal) → List ℕ → ℕ → Result (Option ℕ) HistoryRefusal
-or_end next input place = if place == length input then Ok None else map_refusal of_piece (map_value (λ start. Some start) (next input place))
+or_end next input place =
+    if place == length input then Ok None else map_refusal of_piece (map_value (λ start. Some start) (next input place))
 
 -- a row
 abbrev pub row_at : List Column → List ℕ → List (List Cell) → ℕ → Result (List Cell × ℕ) HistoryRefusal
@@ -53,7 +55,8 @@ row_at columns input read place = map_refusal of_cells (cells_at columns input p
 
 -- rows, parted by semicolons
 abbrev pub rows_at : List Column → List ℕ → ℕ → Result (List (List Cell)) HistoryRefusal
-rows_at columns input place = map_value (λ read. read.0) (many (row_at columns input) (or_end (mark_at 59) input) (length input + 1) [] place)
+rows_at columns input place =
+    map_value (λ read. read.0) (many (row_at columns input) (or_end (mark_at 59) input) (length input + 1) [] place)
 
 -- the path stood before
 abbrev pub is_repeated : List (List ℕ) → List ℕ → Bool
@@ -69,7 +72,8 @@ path_at input read place = map_refusal of_piece (literal_at input place >>= λ l
 
 -- distinct paths, parted by gaps
 abbrev pub paths_at : List ℕ → ℕ → Result (List (List ℕ)) HistoryRefusal
-paths_at input place = map_value (λ read. read.0) (many (path_at input) (or_end gap_at input) (length input + 1) [] place)
+paths_at input place =
+    map_value (λ read. read.0) (many (path_at input) (or_end gap_at input) (length input + 1) [] place)
 
 -- paths behind a gap, or none at the end
 abbrev pub paths_or_end : List ℕ → Option ℕ → Result (List (List ℕ)) HistoryRefusal
@@ -78,13 +82,17 @@ paths_or_end input (Some start) = paths_at input start
 
 -- what follows the word of a request, by its place among them
 abbrev pub request_behind : List Column → List ℕ → ℕ × ℕ → Result Request HistoryRefusal
-request_behind columns input (zero, place) = map_refusal of_piece (gap_at input place) >>= λ start. map_value Append (rows_at columns input start)
-request_behind columns input (suc zero, place) = or_end gap_at input place >>= λ next. map_value Compact (paths_or_end input next)
-request_behind columns input (suc (suc index), place) = map_refusal of_piece (end_at input place) >>= λ done. Ok Upgrade
+request_behind columns input (zero, place) =
+    map_refusal of_piece (gap_at input place) >>= λ start. map_value Append (rows_at columns input start)
+request_behind columns input (suc zero, place) =
+    or_end gap_at input place >>= λ next. map_value Compact (paths_or_end input next)
+request_behind columns input (suc (suc index), place) =
+    map_refusal of_piece (end_at input place) >>= λ done. Ok Upgrade
 
 -- a request from the place to the end of the text
 unfoldable pub request_at : List Column → List ℕ → ℕ → Result Request HistoryRefusal
-request_at columns input place = map_refusal of_piece (one_of request_words input place) >>= λ word. request_behind columns input word
+request_at columns input place =
+    map_refusal of_piece (one_of request_words input place) >>= λ word. request_behind columns input word
 
 -- a request that is the whole text
 abbrev pub request_of : List Column → List ℕ → Result Request HistoryRefusal

@@ -1,5 +1,7 @@
--- Runs of ids as they stand in a text: each as its first id, a plus sign and how many there are; a minus sign where there is none.
-use Rattle.std.specs.Prelude.{ℕ, ◌+◌, ◌-◌, ℤ, pos, negsuc, ◌+ℤ◌, int_lt, Bool, false, not, ◌&&◌, List, [], ◌∷◌, ◌++◌, length, slice_get, Option, Some, None, Result, Ok, Err, codes, if◌then◌else◌}
+-- Runs of ids as they stand in a text: each as its first id, a plus sign and how many there are;
+-- a minus sign if there is none.
+use Rattle.std.specs.Prelude.{ℕ, ◌+◌, ◌-◌, ℤ, pos, negsuc, ◌+ℤ◌, int_lt, Bool, false, not, ◌&&◌, List, [], ◌∷◌, ◌++◌,
+  length, slice_get, Option, Some, None, Result, Ok, Err, codes, if◌then◌else◌}
 use Rattle.std.specs.List.{flat_map}
 use Rattle.std.specs.Fmt.{signed_decimal}
 use Rattle.std.specs.Ordering.{int_eq}
@@ -36,13 +38,16 @@ goes_on (run ∷ next ∷ runs) first = goes_on (next ∷ runs) first
 
 -- another digit may follow the id, which is of 64 bits then, too
 abbrev pub may_grow : ℤ → Bool
-may_grow first = not (int_eq first (pos 0)) && int_lt (negsuc 922337203685477580) first && int_lt first (pos 922337203685477581)
+may_grow first =
+    not (int_eq first (pos 0)) && int_lt (negsuc 922337203685477580) first && int_lt first (pos 922337203685477581)
 
--- where a first id at which the run before goes on stops: at the byte behind it, or at its last digit where no digit may follow
+-- where a first id at which the run before goes on stops: at the byte behind it,
+-- or at its last digit if no digit may follow
 abbrev pub stop_of : ℤ → ℕ → ℕ
 stop_of first after = if may_grow first then after else after - 1
 
--- where a first id past 64 bits stops: at the digit that passes them, or where the id before that digit does, if the run before goes on at it
+-- where a first id past 64 bits stops: at the digit that passes them,
+-- or where the id before that digit does, if the run before goes on at it
 abbrev pub stop_past : List Run → Passed → ℕ
 stop_past read passed = if goes_on read passed.front then stop_of passed.front passed.place else passed.place
 
@@ -57,12 +62,14 @@ first_at input read place = signed_at input place >>= first_of read
 
 -- the plus sign behind a first id; no run begins where the one before it goes on
 abbrev pub plus_at : List Run → ℤ → List ℕ → ℕ → Result ℕ PieceRefusal
-plus_at read first input place = if goes_on read first then Err (Syntax (stop_of first place)) else byte_at 43 input place
+plus_at read first input place =
+    if goes_on read first then Err (Syntax (stop_of first place)) else byte_at 43 input place
 
 -- a run behind those that were read
 abbrev pub run_at : List ℕ → List Run → ℕ → Result (Run × ℕ) PieceRefusal
 run_at input read place =
-    first_at input read place >>= λ first. plus_at read first.0 input first.1 >>= λ start. count_at input start >>= λ count. Ok (record { first = first.0; count = count.0 }, count.1)
+    first_at input read place >>= λ first. plus_at read first.0 input first.1 >>= λ start.
+    count_at input start >>= λ count. Ok (record { first = first.0; count = count.0 }, count.1)
 
 -- a comma behind a run says that there is another one
 abbrev pub comma_at : List ℕ → ℕ → Result (Option ℕ) PieceRefusal
@@ -70,4 +77,6 @@ comma_at input place = Ok (if is_this 44 (slice_get input place) then Some (plac
 
 -- runs, and the place after them
 unfoldable pub runs_at : List ℕ → ℕ → Result (List Run × ℕ) PieceRefusal
-runs_at input place = if is_absent input place then Ok ([], place + 1) else many (run_at input) (comma_at input) (length input + 1) [] place
+runs_at input place =
+    if is_absent input place then Ok ([], place + 1)
+    else many (run_at input) (comma_at input) (length input + 1) [] place

@@ -26,7 +26,8 @@ AreRuns [] = Unit {0}
 AreRuns (run ∷ []) = IsRun run
 AreRuns (run ∷ next ∷ runs) = IsRun run × (next.first ≢ (run.first +ℤ run.count)) × AreRuns (next ∷ runs)
 
--- an entry is about a table of these columns: its request is, its runs are in their one spelling, and its numbers are of 64 bits
+-- an entry is about a table of these columns: its request is, its runs are in their one spelling,
+-- and its numbers are of 64 bits
 pub record FitsEntry (columns : List Column) (entry : Entry) : Type 0 where
   pub who : entry.who < 2 ^ 64
   pub request : FitsRequest columns entry.request

@@ -1,5 +1,6 @@
 -- A history of a table: its states, whether it is legal, and the ids that it gives.
-use Rattle.std.specs.Prelude.{◌≡◌, ⊤, ℕ, ◌+◌, ℤ, true, List, [], ◌∷◌, ◌++◌, Option, Some, None, Result, Ok, Err, if◌then◌else◌, ◌<ℤ◌, ◌≤ℤ◌}
+use Rattle.std.specs.Prelude.{◌≡◌, ⊤, ℕ, ◌+◌, ℤ, true, List, [], ◌∷◌, ◌++◌, Option, Some, None, Result, Ok, Err,
+  if◌then◌else◌, ◌<ℤ◌, ◌≤ℤ◌}
 use Rattle.std.specs.List.{flat_map}
 use Rattle.std.specs.Map.{keys_of}
 use Rattle.words.specs.Reading.{◌>>=◌}
@@ -47,11 +48,13 @@ stepped place state entry (Some rule) = Err (record { entry = place; rule = rule
 -- the state after the entries, the first of which is at this place; or the first fault
 unfoldable pub audited_from : ℕ → State → List Entry → Result State Fault
 audited_from place state [] = Ok state
-audited_from place state (entry ∷ entries) = stepped place state entry (broken_rule state entry) >>= λ after. audited_from (place + 1) after entries
+audited_from place state (entry ∷ entries) =
+    stepped place state entry (broken_rule state entry) >>= λ after. audited_from (place + 1) after entries
 
 -- the state after all entries, or the first fault
 unfoldable pub audited : State → List Entry → Result State Fault
-audited start entries = if is_opening start then audited_from 1 start entries else Err (record { entry = 0; rule = rules.Start })
+audited start entries =
+    if is_opening start then audited_from 1 start entries else Err (record { entry = 0; rule = rules.Start })
 
 -- ---- what the laws speak of
 

@@ -1,5 +1,6 @@
 -- One entry of a history applied to a state: the rules that it keeps, and what comes of it.
-use Rattle.std.specs.Prelude.{◌≡◌, ℕ, ◌==◌, ℤ, pos, ◌+ℤ◌, int_lt, Bool, true, false, not, ◌&&◌, List, [], ◌++◌, length, map, Option, Some, None, if◌then◌else◌, is_some}
+use Rattle.std.specs.Prelude.{◌≡◌, ℕ, ◌==◌, ℤ, pos, ◌+ℤ◌, int_lt, Bool, true, false, not, ◌&&◌, List, [], ◌++◌,
+  length, map, Option, Some, None, if◌then◌else◌, is_some}
 use Rattle.std.specs.Option.{is_none as is_absent}
 use Rattle.std.specs.List.{list_all}
 use Rattle.std.specs.Ordering.{int_eq}
@@ -50,7 +51,8 @@ is_this number (Some other) = int_eq other number
 
 -- an upgrade with a sequence number, or another entry without the next one
 abbrev pub breaks_seq : State → Entry → Bool
-breaks_seq state entry = if is_upgrade entry.request then is_some entry.seq else not (is_this (state.seq +ℤ pos 1) entry.seq)
+breaks_seq state entry =
+    if is_upgrade entry.request then is_some entry.seq else not (is_this (state.seq +ℤ pos 1) entry.seq)
 
 -- the next id is there in version 2, absent in version 3, or not 0 behind an upgrade
 abbrev pub breaks_next : State → Entry → Bool
@@ -61,7 +63,8 @@ breaks_next state entry =
 
 -- the named ids are not as many as the rows without one; where no ids are given there are some
 abbrev pub breaks_named : State → Entry → Bool
-breaks_named state entry = not (length (ids_of entry.named) == (if gives_ids state entry.request then length state.unnamed else 0))
+breaks_named state entry =
+    not (length (ids_of entry.named) == (if gives_ids state entry.request then length state.unnamed else 0))
 
 -- how many rows a request appends
 abbrev pub appended : Request → ℕ
@@ -71,7 +74,8 @@ appended Upgrade = 0
 
 -- the given ids are not as many as the appended rows; where no ids are given there are some
 abbrev pub breaks_given : State → Entry → Bool
-breaks_given state entry = not (length (ids_of entry.given) == (if gives_ids state entry.request then appended entry.request else 0))
+breaks_given state entry =
+    not (length (ids_of entry.given) == (if gives_ids state entry.request then appended entry.request else 0))
 
 -- the ids that an entry gives to rows: first to those that had none, then to those that it appends
 abbrev pub ids_given_by : Entry → List ℤ
@@ -118,7 +122,9 @@ appended_to state entry asks = record {
 
 -- the rows that don't leave, those that are changed with their new cells and the new sequence number
 abbrev pub kept_rows : State → Asked → List NamedRow
-kept_rows state asks = with_rows (without_rows state.rows asks.removes) (map (λ row. (row.0, stamped (state.seq +ℤ pos 1) row.1)) asks.changes)
+kept_rows state asks =
+    with_rows (without_rows state.rows asks.removes)
+        (map (λ row. (row.0, stamped (state.seq +ℤ pos 1) row.1)) asks.changes)
 
 -- those, and the rows without id under the named ids, in their order
 abbrev pub named_rows : State → Entry → Asked → List NamedRow
@@ -126,7 +132,8 @@ named_rows state entry asks = with_rows (kept_rows state asks) (under (ids_of en
 
 -- those, and the new rows under the given ids, with the new sequence number
 abbrev pub rows_after : State → Entry → Asked → List NamedRow
-rows_after state entry asks = with_rows (named_rows state entry asks) (under (ids_of entry.given) (map (stamped (state.seq +ℤ pos 1)) asks.adds))
+rows_after state entry asks =
+    with_rows (named_rows state entry asks) (under (ids_of entry.given) (map (stamped (state.seq +ℤ pos 1)) asks.adds))
 
 -- version 3: every row has an id
 abbrev pub committed_to : State → Entry → Asked → State

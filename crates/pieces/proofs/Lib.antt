@@ -1,14 +1,6 @@
-pub mod WordLemmas
-pub mod WordLaws
-pub mod NumberLemmas
-pub mod NumberLaws
-pub mod LiteralSteps
-pub mod LiteralRuns
-pub mod LiteralLaws
-pub mod HexSteps
-pub mod HexLaws
-pub mod CountLaws
-pub mod HexFits
-pub mod ManyLaws
-pub mod ManyFits
-pub mod ReadLaws
+mod WordLemmas
+mod NumberLemmas
+mod CountLaws
+mod LiteralSteps
+mod LiteralRuns
+mod HexSteps

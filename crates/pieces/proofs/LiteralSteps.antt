@@ -8,6 +8,7 @@ use Rattle.pieces.specs.declared.refusal.PieceRefusal.TheVariants.{Syntax}
 use Rattle.pieces.specs.Literal.{rest_at, unescaped, is_never_raw}
 use Rattle.pieces.specs.Word.{byte_at}
 use Rattle.pieces.specs.Plain.{is_plain}
+use Rattle.pieces.specs.WordLaws.{byte_stands}
 
 -- at the end of the input no closing quote stands
 pub at_end : (content input : List ℕ) (place : ℕ) → length input ≤ place → rest_at false content (drop place input) place ≡ Err (Syntax place)
@@ -66,21 +67,6 @@ pub unescaped_ascii : (byte other : ℕ) → unescaped byte ≡ Some other → (
 unescaped_ascii byte other known = (grind arith, grind arith)
 
 -- ---- the byte before a literal's text
-
--- a byte that is taken stands there
-pub byte_stands : (byte : ℕ) (input : List ℕ) (place after : ℕ) → byte_at byte input place ≡ Ok after → (place < length input) × (get_or input place 0 ≡ byte) × (after ≡ place + 1)
-byte_stands byte input place after taken =
-    elim (cases_lt place (length input)) [
-      | inr over ↦ let none = slice_get_past input place over in cc
-      | inl lt ↦ elim (cases_Bool (get_or input place 0 == byte)) [
-        | inl same ↦
-            let read : byte_at byte input place ≡ Ok (place + 1) = rw (slice_get-get_or input place 0 lt, same) refl in
-            (lt, eqb-true (get_or input place 0) byte same, cc)
-        | inr other ↦
-            let refused : byte_at byte input place ≡ Err (Syntax place) = rw (slice_get-get_or input place 0 lt, other) refl in
-            cc
-      ]
-    ]
 
 -- behind an ASCII byte the text may be cut
 pub boundary_behind : (byte : ℕ) (input : List ℕ) (place after : ℕ) → IsUtf8 input → byte < 128 → byte_at byte input place ≡ Ok after → IsCharBoundary input after

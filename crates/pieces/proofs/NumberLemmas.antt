@@ -9,7 +9,7 @@ use Rattle.pieces.specs.declared.number.Digits.{Digits}
 use Rattle.pieces.specs.declared.number.Digits.TheVariants.{Within, Over}
 use Rattle.pieces.specs.Word.{is_this}
 use Rattle.pieces.specs.Number.{is_digit, digits, digits_from, begins, positive_at, natural_at, negative, value_of, Signed, after_of, signed_as, signed_at, no_more, unsigned_at, count_at, of_64_bits, long_at, or_none, any_number_at}
-use Rattle.pieces.proofs.WordLemmas.{is_this_within}
+use Rattle.pieces.specs.WordLaws.{is_this_within}
 
 -- ---- how many digits there are
 
@@ -58,14 +58,19 @@ step_of most value byte rest at is =
     ]
 
 -- a digit that the most leaves room for
-pub digits_from_on : (input : List ℕ) (most value next at : ℕ) (total : Digits) → at < length input → is_digit (get_or input at 0) ≡ true → with_digit most value (get_or input at 0) ≡ Some next → digits_from most value (drop at input) at ≡ total → digits_from most next (drop (at + 1) input) (at + 1) ≡ total
+pub digits_from_on : (input : List ℕ) (most value next at : ℕ) (total : Digits) → at < length input
+    → is_digit (get_or input at 0) ≡ true → with_digit most value (get_or input at 0) ≡ Some next
+    → digits_from most value (drop at input) at ≡ total → digits_from most next (drop (at + 1) input) (at + 1) ≡ total
 digits_from_on input most value next at total inside is fits so_far =
     sym (at_drop_more (λ (rest : List ℕ). digits_from most value rest at) input at 0 inside
     ∙ step_of most value (get_or input at 0) (drop (at + 1) input) at is
     ∙ ap (λ (o : Option ℕ). goes_on most value o (drop (at + 1) input) at) fits) ∙ so_far
 
 -- the digit that passes the most
-pub digits_from_over : (input : List ℕ) (most value at : ℕ) (total : Digits) → at < length input → is_digit (get_or input at 0) ≡ true → with_digit most value (get_or input at 0) ≡ None → digits_from most value (drop at input) at ≡ total → total ≡ Over value at (at + 1 + digits (drop (at + 1) input))
+pub digits_from_over : (input : List ℕ) (most value at : ℕ) (total : Digits) → at < length input
+    → is_digit (get_or input at 0) ≡ true → with_digit most value (get_or input at 0) ≡ None
+    → digits_from most value (drop at input) at ≡ total
+    → total ≡ Over value at (at + 1 + digits (drop (at + 1) input))
 digits_from_over input most value at total inside is over so_far =
     sym so_far ∙ (at_drop_more (λ (rest : List ℕ). digits_from most value rest at) input at 0 inside
     ∙ step_of most value (get_or input at 0) (drop (at + 1) input) at is

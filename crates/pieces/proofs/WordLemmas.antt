@@ -8,12 +8,7 @@ use Rattle.pieces.specs.declared.refusal.PieceRefusal.{PieceRefusal}
 use Rattle.pieces.specs.declared.refusal.PieceRefusal.TheVariants.{Syntax}
 use Rattle.pieces.specs.Refusal.{place_of}
 use Rattle.pieces.specs.Word.{is_this, byte_at, word_at, or_else, one_of_from, spaces}
-
--- what stands somewhere stands inside
-pub is_this_within : (byte : ℕ) (input : List ℕ) (place : ℕ) → is_this byte (slice_get input place) ≡ true → place < length input
-is_this_within byte [] place is = absurd (false≢true is)
-is_this_within byte (x ∷ xs) zero is = omega arith
-is_this_within byte (x ∷ xs) (suc place) is = let h : place < length xs = is_this_within byte xs place is in omega arith
+use Rattle.pieces.specs.WordLaws.{is_this_within}
 
 -- a byte is read inside the text
 pub byte_within : (byte : ℕ) (input : List ℕ) (place : ℕ) → IfOk (byte_at byte input place) (λ after. (place ≤ after) × (after ≤ length input))

@@ -1,5 +1,6 @@
 -- Texts between quotes.
-use Rattle.std.specs.Prelude.{ℕ, ◌+◌, ◌==◌, Bool, true, false, ◌||◌, List, [], ◌∷◌, ◌++◌, drop, Option, Some, None, Result, Ok, Err, codes, if◌then◌else◌}
+use Rattle.std.specs.Prelude.{ℕ, ◌+◌, ◌==◌, Bool, true, false, ◌||◌, List, [], ◌∷◌, ◌++◌, drop, Option, Some, None,
+  Result, Ok, Err, codes, if◌then◌else◌}
 use Rattle.std.specs.List.{flat_map}
 use Rattle.words.specs.Reading.{◌>>=◌}
 use Rattle.pieces.specs.declared.refusal.PieceRefusal.{PieceRefusal}
@@ -38,10 +39,12 @@ unescaped byte =
 abbrev pub is_never_raw : ℕ → Bool
 is_never_raw byte = byte == 10 || byte == 13 || byte == 9
 
--- the rest of a literal behind what was read of it: the text, and the place after the closing quote. After a backslash the next byte stands for another one
+-- the rest of a literal behind what was read of it: the text, and the place after the closing quote.
+-- After a backslash the next byte stands for another one
 unfoldable pub rest_at : Bool → List ℕ → List ℕ → ℕ → Result (List ℕ × ℕ) PieceRefusal
 rest_at behind_backslash text [] place = Err (Syntax place)
-rest_at true text (byte ∷ rest) place = go (unescaped byte) (λ other. rest_at false (text ++ other ∷ []) rest (place + 1)) place where
+rest_at true text (byte ∷ rest) place =
+    go (unescaped byte) (λ other. rest_at false (text ++ other ∷ []) rest (place + 1)) place where
   go : Option ℕ → (ℕ → Result (List ℕ × ℕ) PieceRefusal) → ℕ → Result (List ℕ × ℕ) PieceRefusal
   go None next at = Err (Syntax at)
   go (Some other) next at = next other

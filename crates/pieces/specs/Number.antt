@@ -1,5 +1,6 @@
 -- Numbers in decimal: 0, or digits of which the first is not 0, perhaps with a minus sign before them.
-use Rattle.std.specs.Prelude.{ℕ, zero, suc, ◌+◌, ◌-◌, ◌*◌, ◌^◌, ℤ, pos, negsuc, Bool, true, false, ◌&&◌, List, [], ◌∷◌, drop, slice_get, Option, Some, None, Result, Ok, Err, nat_lt, if◌then◌else◌, codes}
+use Rattle.std.specs.Prelude.{ℕ, zero, suc, ◌+◌, ◌-◌, ◌*◌, ◌^◌, ℤ, pos, negsuc, Bool, true, false, ◌&&◌, List, [],
+  ◌∷◌, drop, slice_get, Option, Some, None, Result, Ok, Err, nat_lt, if◌then◌else◌, codes}
 use Rattle.std.specs.Fmt.{signed_decimal}
 use Rattle.words.specs.Reading.{◌>>=◌, map_value}
 use Rattle.pieces.specs.declared.refusal.PieceRefusal.{PieceRefusal}
@@ -18,7 +19,8 @@ unfoldable pub digits : List ℕ → ℕ
 digits [] = 0
 digits (byte ∷ rest) = if is_digit byte then suc (digits rest) else 0
 
--- the number that the digits go on to from a value, with the place after them; or the number before the digit that brings it above the most, the place of that digit, and the place after the last digit
+-- the number that the digits go on to from a value, with the place after them; or the number before the digit
+-- that brings it above the most, the place of that digit, and the place after the last digit
 unfoldable pub digits_from : ℕ → ℕ → List ℕ → ℕ → Digits
 digits_from most value [] place = Within value place
 digits_from most value (byte ∷ rest) place =
@@ -34,11 +36,13 @@ begins (Some byte) = nat_lt 48 byte && nat_lt byte 58
 
 -- a number from 1 to the most
 abbrev pub positive_at : ℕ → List ℕ → ℕ → Result Digits PieceRefusal
-positive_at most input place = if begins (slice_get input place) then Ok (digits_from most 0 (drop place input) place) else Err (Syntax place)
+positive_at most input place =
+    if begins (slice_get input place) then Ok (digits_from most 0 (drop place input) place) else Err (Syntax place)
 
 -- a number from 0 to the most
 abbrev pub natural_at : ℕ → List ℕ → ℕ → Result Digits PieceRefusal
-natural_at most input place = if is_this 48 (slice_get input place) then Ok (Within 0 (place + 1)) else positive_at most input place
+natural_at most input place =
+    if is_this 48 (slice_get input place) then Ok (Within 0 (place + 1)) else positive_at most input place
 
 -- what digits make, or those before the one that passes the most
 abbrev pub value_of : Digits → ℕ
@@ -105,7 +109,9 @@ any_number_at input place = map_value or_none (signed_at input place)
 
 -- a minus sign that is no number's: what stands for an absent number
 abbrev pub is_absent : List ℕ → ℕ → Bool
-is_absent input place = if is_this 45 (slice_get input place) then (if begins (slice_get input (place + 1)) then false else true) else false
+is_absent input place =
+    if is_this 45 (slice_get input place) then (if begins (slice_get input (place + 1)) then false else true)
+    else false
 
 -- a number of 64 bits with a sign, or a minus sign alone for an absent one
 abbrev pub optional_long_at : List ℕ → ℕ → Result (Option ℤ × ℕ) PieceRefusal

@@ -1,5 +1,7 @@
--- Single bytes, words, spaces and the end, each as a reader from a place: the place after it, or the place of the first byte that is not part of it.
-use Rattle.std.specs.Prelude.{ℕ, suc, ◌+◌, ◌==◌, Bool, false, List, [], ◌∷◌, length, drop, slice_get, Option, Some, None, Result, Ok, Err, if◌then◌else◌, max}
+-- Single bytes, words, spaces and the end, each as a reader from a place: the place after it, or the place of
+-- the first byte that is not part of it.
+use Rattle.std.specs.Prelude.{ℕ, suc, ◌+◌, ◌==◌, Bool, false, List, [], ◌∷◌, length, drop, slice_get, Option, Some,
+  None, Result, Ok, Err, if◌then◌else◌, max}
 use Rattle.words.specs.Reading.{◌>>=◌}
 use Rattle.pieces.specs.declared.refusal.PieceRefusal.{PieceRefusal}
 use Rattle.pieces.specs.declared.refusal.PieceRefusal.TheVariants.{Syntax}
@@ -24,10 +26,12 @@ abbrev pub or_else : Result ℕ PieceRefusal → ℕ → (ℕ → Result (ℕ ×
 or_else (Ok after) index next far = Ok (index, after)
 or_else (Err refusal) index next far = next (max far (place_of refusal))
 
--- the first of the words that stands there, by its place in the list, and the place after it; else how far some word went
+-- the first of the words that stands there, by its place in the list, and the place after it;
+-- else how far some word went
 unfoldable pub one_of_from : ℕ → List (List ℕ) → List ℕ → ℕ → ℕ → Result (ℕ × ℕ) PieceRefusal
 one_of_from index [] input place far = Err (Syntax far)
-one_of_from index (word ∷ words) input place far = or_else (word_at word input place) index (λ further. one_of_from (index + 1) words input place further) far
+one_of_from index (word ∷ words) input place far =
+    or_else (word_at word input place) index (λ further. one_of_from (index + 1) words input place further) far
 
 abbrev pub one_of : List (List ℕ) → List ℕ → ℕ → Result (ℕ × ℕ) PieceRefusal
 one_of words input place = one_of_from 0 words input place place

@@ -14,24 +14,37 @@ use Rattle.row_pred.specs.Cell.{cell_at}
 use Rattle.row_pred.specs.Cells.{next_at, cells_from, cells_at, cells_of}
 
 -- the cell of the next column
-cells_step : (read : List Cell) (columns : List Column) (column : Column) (input : List ℕ) (i place : ℕ) → i < length columns → column ≡ get_or columns i column → cells_from read (drop i columns) input place ≡ (next_at read input place >>= λ start. cell_at column input start >>= λ cell. cells_from (read ++ cell.0 ∷ []) (drop (i + 1) columns) input cell.1)
+cells_step : (read : List Cell) (columns : List Column) (column : Column) (input : List ℕ) (i place : ℕ)
+    → i < length columns → column ≡ get_or columns i column
+    → cells_from read (drop i columns) input place ≡ (next_at read input place >>= λ start. cell_at column input start >>= λ cell. cells_from (read ++ cell.0 ∷ []) (drop (i + 1) columns) input cell.1)
 unfolding cells_from
 cells_step read columns column input i place inside is =
     at_drop_more (λ (rest : List Column). cells_from read rest input place) columns i column inside
     ∙ ap (λ (item : Column). next_at read input place >>= λ start. cell_at item input start >>= λ cell. cells_from (read ++ cell.0 ∷ []) (drop (i + 1) columns) input cell.1) (sym is)
 
 -- one more cell was read
-pub cells_on : (read : List Cell) (columns : List Column) (column : Column) (input : List ℕ) (i place start after : ℕ) (cell : Cell) (total : Result (List Cell × ℕ) PredRefusal) → i < length columns → column ≡ get_or columns i column → next_at read input place ≡ Ok start → cell_at column input start ≡ Ok (cell, after) → cells_from read (drop i columns) input place ≡ total → cells_from (read ++ cell ∷ []) (drop (i + 1) columns) input after ≡ total
+pub cells_on : (read : List Cell) (columns : List Column) (column : Column) (input : List ℕ) (i place start after : ℕ)
+    (cell : Cell) (total : Result (List Cell × ℕ) PredRefusal) → i < length columns → column ≡ get_or columns i column
+    → next_at read input place ≡ Ok start → cell_at column input start ≡ Ok (cell, after)
+    → cells_from read (drop i columns) input place ≡ total → cells_from (read ++ cell ∷ [])
+    (drop (i + 1) columns) input after ≡ total
 cells_on read columns column input i place start after cell total inside is next one so_far =
     sym (cells_step read columns column input i place inside is ∙ rw (next, one) refl) ∙ so_far
 
 -- no cell begins there
-pub cells_stopped : (read : List Cell) (columns : List Column) (column : Column) (input : List ℕ) (i place : ℕ) (refusal : PredRefusal) (total : Result (List Cell × ℕ) PredRefusal) → i < length columns → column ≡ get_or columns i column → next_at read input place ≡ Err refusal → cells_from read (drop i columns) input place ≡ total → total ≡ Err refusal
+pub cells_stopped : (read : List Cell) (columns : List Column) (column : Column) (input : List ℕ) (i place : ℕ)
+    (refusal : PredRefusal) (total : Result (List Cell × ℕ) PredRefusal) → i < length columns
+    → column ≡ get_or columns i column → next_at read input place ≡ Err refusal
+    → cells_from read (drop i columns) input place ≡ total → total ≡ Err refusal
 cells_stopped read columns column input i place refusal total inside is next so_far =
     sym so_far ∙ (cells_step read columns column input i place inside is ∙ rw next refl)
 
 -- the next cell is refused
-pub cells_refused : (read : List Cell) (columns : List Column) (column : Column) (input : List ℕ) (i place start : ℕ) (refusal : PredRefusal) (total : Result (List Cell × ℕ) PredRefusal) → i < length columns → column ≡ get_or columns i column → next_at read input place ≡ Ok start → cell_at column input start ≡ Err refusal → cells_from read (drop i columns) input place ≡ total → total ≡ Err refusal
+pub cells_refused : (read : List Cell) (columns : List Column) (column : Column) (input : List ℕ) (i place start : ℕ)
+    (refusal : PredRefusal) (total : Result (List Cell × ℕ) PredRefusal) → i < length columns
+    → column ≡ get_or columns i column → next_at read input place ≡ Ok start
+    → cell_at column input start ≡ Err refusal → cells_from read (drop i columns) input place ≡ total
+    → total ≡ Err refusal
 cells_refused read columns column input i place start refusal total inside is next one so_far =
     sym so_far ∙ (cells_step read columns column input i place inside is ∙ rw (next, one) refl)
 

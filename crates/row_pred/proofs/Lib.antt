@@ -1,5 +1,2 @@
-pub mod CellLemmas
-pub mod CellsLemmas
-pub mod CellLaws
-pub mod CellsLaws
-pub mod FitLaws
+mod CellLemmas
+mod CellsLemmas

@@ -1,5 +1,6 @@
 -- A cell as it stands in a text: null, true, false, a number, a text between quotes, or bytes in hexadecimal.
-use Rattle.std.specs.Prelude.{ℕ, zero, suc, ◌==◌, Bool, true, false, ◌||◌, List, [], ◌∷◌, slice_get, Option, Some, None, Result, Ok, Err, codes, if◌then◌else◌}
+use Rattle.std.specs.Prelude.{ℕ, zero, suc, ◌==◌, Bool, true, false, ◌||◌, List, [], ◌∷◌, slice_get, Option, Some,
+  None, Result, Ok, Err, codes, if◌then◌else◌}
 use Rattle.std.specs.Fmt.{signed_decimal}
 use Rattle.std.specs.Option.{option_map}
 use Rattle.words.specs.Reading.{◌>>=◌, map_refusal, map_value}
@@ -46,22 +47,30 @@ abbrev pub begins_number : Option ℕ → Bool
 begins_number None = false
 begins_number (Some byte) = byte == 45 || is_digit byte
 
--- any cell, whatever its column, and the place after it; None for a number that is of no kind, since it is not of 64 bits
+-- any cell, whatever its column, and the place after it;
+-- None for a number that is of no kind, since it is not of 64 bits
 abbrev pub any_cell_at : List ℕ → ℕ → Result (Option Cell × ℕ) PieceRefusal
 any_cell_at input place =
-    if is_this 34 (slice_get input place) then map_value (λ read. (Some (Text read.0), read.1)) (literal_at input place)
-    else (if is_this 120 (slice_get input place) then map_value (λ read. (Some (Bytes read.0), read.1)) (hex_at input place)
-    else (if begins_number (slice_get input place) then map_value (λ read. (option_map Num read.0, read.1)) (any_number_at input place)
+    if is_this 34 (slice_get input place)
+    then map_value (λ read. (Some (Text read.0), read.1)) (literal_at input place)
+    else (if is_this 120 (slice_get input place)
+    then map_value (λ read. (Some (Bytes read.0), read.1)) (hex_at input place)
+    else (if begins_number (slice_get input place)
+    then map_value (λ read. (option_map Num read.0, read.1)) (any_number_at input place)
     else map_value (λ read. (Some (word_cell read.0), read.1)) (one_of cell_words input place)))
 
--- the cell that began at the place, where it may stand in the column
+-- the cell that began at the place, if it may stand in the column
 abbrev pub fitted : Column → ℕ → Option Cell × ℕ → Result (Cell × ℕ) PredRefusal
 fitted column place (None, after) = Err (Misfit place)
 fitted column place (Some Null, after) = if column.required then Err (NotNull column.id) else Ok (Null, after)
-fitted column place (Some (Flag flag), after) = if fits column (Flag flag) then Ok (Flag flag, after) else Err (Misfit place)
-fitted column place (Some (Num number), after) = if fits column (Num number) then Ok (Num number, after) else Err (Misfit place)
-fitted column place (Some (Text text), after) = if fits column (Text text) then Ok (Text text, after) else Err (Misfit place)
-fitted column place (Some (Bytes bytes), after) = if fits column (Bytes bytes) then Ok (Bytes bytes, after) else Err (Misfit place)
+fitted column place (Some (Flag flag), after) =
+    if fits column (Flag flag) then Ok (Flag flag, after) else Err (Misfit place)
+fitted column place (Some (Num number), after) =
+    if fits column (Num number) then Ok (Num number, after) else Err (Misfit place)
+fitted column place (Some (Text text), after) =
+    if fits column (Text text) then Ok (Text text, after) else Err (Misfit place)
+fitted column place (Some (Bytes bytes), after) =
+    if fits column (Bytes bytes) then Ok (Bytes bytes, after) else Err (Misfit place)
 
 -- a cell of the column, and the place after it
 unfoldable pub cell_at : Column → List ℕ → ℕ → Result (Cell × ℕ) PredRefusal

@@ -1,4 +1,5 @@
--- The cells of a row as they stand in a text: in the order of the columns, one in each, with one space between them, or more of them on reading.
+-- The cells of a row as they stand in a text: in the order of the columns, one in each, with one space between them,
+-- or more of them on reading.
 use Rattle.std.specs.Prelude.{ℕ, List, [], ◌∷◌, ◌++◌, Result, Ok, codes}
 use Rattle.std.specs.List.{flat_map}
 use Rattle.words.specs.Reading.{◌>>=◌, map_refusal}

@@ -1,3 +1,6 @@
 pub mod Refusal
 pub mod Cell
 pub mod Cells
+pub mod CellLaws
+pub mod CellsLaws
+pub mod FitLaws

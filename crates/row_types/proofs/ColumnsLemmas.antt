@@ -16,7 +16,7 @@ use Rattle.std.proofs.lemmas.Slice.Eq.{bytes_eq-Decides}
 use Rattle.row_types.specs.declared.column.Column.{Column}
 use Rattle.row_types.specs.declared.columns.ColumnsRefusal.TheVariants.{Name}
 use Rattle.row_types.specs.Columns.{IsColumns, first_fault, has_wrong_id, has_wrong_name, columns_of}
-use Rattle.row_types.proofs.FaultLemmas.{all_right_from_start, none_found_from_start}
+use Rattle.row_types.proofs.FaultLemmas.{all_right_from_start}
 
 -- where no earlier item has the key of the later one, they differ
 apart : {X K : Type 0} (eq : K → K → Bool) (same : (a b : K) → Decides (eq a b) (a ≡ b)) (key : X → K) (items : List X) (i j : ℕ) (d : X) → i < j → j < length items
@@ -27,20 +27,8 @@ apart eq same key items i j d before within none equal =
     let test : eq (key (get_or (take j items) i d)) (key (get_or items j d)) ≡ true = rw at ((same _ _).1 equal) in
     false≢true (sym none ∙ list_any_at (λ x. eq (key x) (key (get_or items j d))) (take j items) i d inside test)
 
--- where all earlier items differ from the later one, none has its key
-none_before : {X K : Type 0} (eq : K → K → Bool) (same : (a b : K) → Decides (eq a b) (a ≡ b)) (key : X → K) (items : List X) (j : ℕ) (d : X) → j < length items
-    → ((i : ℕ) → i < j → key (get_or items i d) ≢ key (get_or items j d)) → list_any (λ x. eq (key x) (key (get_or items j d))) (take j items) ≡ false
-none_before eq same key items j d within differ =
-    list_any_none (λ x. eq (key x) (key (get_or items j d))) (take j items) (λ i e lt.
-    let before : i < j = rw (length-take-le j items (omega arith)) at lt in
-    let at : get_or (take j items) i e ≡ get_or items i d = get_or_default (take j items) i e d lt ∙ get_or-take j items i d before in
-    rw at (false_from_ne_true _ (λ equal. differ i before ((same _ _).0 equal))))
-
 not_below : (a b : ℤ) → int_lt a b ≡ false → b ≤ℤ a
 not_below a b h = grind (arith, ints)
-
-not_below_from : (a b : ℤ) → b ≤ℤ a → int_lt a b ≡ false
-not_below_from a b h = grind (arith, ints)
 
 -- a list in which no fault is found is the columns of a table
 pub are_columns : (list : List Column) → length list ≢ 0 → length list ≤ 200 → first_fault has_wrong_id [] list ≡ None → first_fault has_wrong_name [] list ≡ None → IsColumns list
@@ -55,20 +43,6 @@ are_columns list some few ids_none names_none =
       names = λ k d lt. let parts = or_parts _ _ (or_parts _ _ (names k d lt)).0 in (ltb-false _ _ parts.0, ltb-false _ _ parts.1);
       distinct_names = λ i j d before within. apart bytes_eq bytes_eq-Decides (λ (column : Column). column.name) list i j d before within (or_parts _ _ (names j d within)).1;
     }
-
--- the columns of a table are not refused
-pub not_refused : (list : List Column) → IsColumns list → columns_of list ≡ Ok list
-unfolding columns_of
-not_refused list right =
-    let ids : first_fault has_wrong_id [] list ≡ None = none_found_from_start has_wrong_id list (λ j d lt.
-    or_from _ _ (or_from _ _ (not_below_from _ _ (right.ids j d lt).0) (not_below_from _ _ (right.ids j d lt).1))
-    (none_before int_eq Decides-int_eq (λ (column : Column). column.id) list j d lt (λ i before. right.distinct_ids i j d before lt))) in
-    let names : first_fault has_wrong_name [] list ≡ None = none_found_from_start has_wrong_name list (λ j d lt.
-    or_from _ _ (or_from _ _ (le-ltb _ _ (right.names j d lt).0) (le-ltb _ _ (right.names j d lt).1))
-    (none_before bytes_eq bytes_eq-Decides (λ (column : Column). column.name) list j d lt (λ i before. right.distinct_names i j d before lt))) in
-    let some : nat_lt (length list) 1 ≡ false = le-ltb _ _ right.some in
-    let few : nat_lt 200 (length list) ≡ false = le-ltb _ _ right.few in
-    rw (some, few, ids, names) refl
 
 -- the name at fault is told
 pub name_refused : (list : List Column) (place : ℕ) (column : Column) → length list ≢ 0 → length list ≤ 200 → first_fault has_wrong_id [] list ≡ None

@@ -30,16 +30,6 @@ all_right is_fault before (x ∷ rest) none (suc i) d lt =
     let later = all_right is_fault (before ++ x ∷ []) rest none_later i d (omega arith) in
     rw append_assoc at later
 
--- where no item is at fault none is found
-none_found : {X : Type 0} (is_fault : List X → X → Bool) (before rest : List X) → ((i : ℕ) (d : X) → i < length rest → is_fault (before ++ take i rest) (get_or rest i d) ≡ false) → first_fault is_fault before rest ≡ None
-none_found is_fault before [] right = refl
-none_found is_fault before (x ∷ rest) right =
-    let here : is_fault before x ≡ false = rw append-nil at (right 0 x (omega arith)) in
-    rw here (none_found is_fault (before ++ x ∷ []) rest (λ i d lt. rw append_assoc (right (suc i) d (omega arith))))
-
--- both, from the start of a list
+-- so from the start of a list
 pub all_right_from_start : {X : Type 0} (is_fault : List X → X → Bool) (items : List X) → first_fault is_fault [] items ≡ None → (i : ℕ) (d : X) → i < length items → is_fault (take i items) (get_or items i d) ≡ false
 all_right_from_start is_fault items none = all_right is_fault [] items none
-
-pub none_found_from_start : {X : Type 0} (is_fault : List X → X → Bool) (items : List X) → ((i : ℕ) (d : X) → i < length items → is_fault (take i items) (get_or items i d) ≡ false) → first_fault is_fault [] items ≡ None
-none_found_from_start is_fault items right = none_found is_fault [] items right

@@ -1,3 +1,3 @@
 mod FaultLemmas
-pub mod ColumnsLemmas
+mod ColumnsLemmas
 mod RowMapLemmas

@@ -1,5 +1,6 @@
 -- Which lists are the columns of a table, and which fault of a list is told.
-use Rattle.std.specs.Prelude.{◌≢◌, ℕ, ◌≤◌, ℤ, pos, ◌≤ℤ◌, int_lt, Bool, ◌||◌, List, [], ◌∷◌, ◌++◌, length, All, Result, Ok, Err, nat_lt, if◌then◌else◌}
+use Rattle.std.specs.Prelude.{◌≢◌, ℕ, ◌≤◌, ℤ, pos, ◌≤ℤ◌, int_lt, Bool, ◌||◌, List, [], ◌∷◌, ◌++◌, length, All, Result,
+  Ok, Err, nat_lt, if◌then◌else◌}
 use Rattle.std.specs.declared.option.Option.{Option}
 use Rattle.std.specs.declared.option.Option.TheVariants.{None, Some}
 use Rattle.std.specs.List.{AllPairs, list_any}
@@ -36,7 +37,8 @@ pub record IsColumns (list : List Column) : Type 0 where
 -- the first item that is at fault behind those before it
 abbrev pub first_fault : {X : Type 0} → (List X → X → Bool) → List X → List X → Option X
 first_fault is_fault before [] = None
-first_fault is_fault before (x ∷ rest) = if is_fault before x then Some x else first_fault is_fault (before ++ x ∷ []) rest
+first_fault is_fault before (x ∷ rest) =
+    if is_fault before x then Some x else first_fault is_fault (before ++ x ∷ []) rest
 
 -- some column has the id
 abbrev pub has_id : List Column → ℤ → Bool
@@ -52,7 +54,8 @@ has_wrong_id before column = int_lt column.id (pos 1) || int_lt (pos largest_id)
 
 -- a column's name is empty, too long, or that of a column before it
 abbrev pub has_wrong_name : List Column → Column → Bool
-has_wrong_name before column = nat_lt (length column.name) 1 || nat_lt most_name_bytes (length column.name) || has_name before column.name
+has_wrong_name before column =
+    nat_lt (length column.name) 1 || nat_lt most_name_bytes (length column.name) || has_name before column.name
 
 -- there are columns, and not too many
 abbrev pub counted : List Column → Result (Unit {0}) ColumnsRefusal

@@ -1,3 +1,5 @@
 pub mod RowMap
 pub mod Columns
 pub mod Fits
+pub mod ColumnsLaws
+pub mod FitsLaws

@@ -1,7 +1,7 @@
 use Rattle.std.proofs.Common.{sym}
 use Rattle.std.proofs.lemmas.Result.{err_from_is_err_and}
 use Rattle.history_types.specs.Fits.{FitsRequest}
-use Rattle.pieces.proofs.ReadLaws.{if_given}
+use Rattle.words.specs.Holds.{if_given}
 use Rattle.history_log.specs.Refusal.{is_memory}
 use Rattle.history_log.specs.Request.{request_at}
 use Rattle.history_log.proofs.RequestFits.{request_fits}

@@ -5,7 +5,7 @@ use Rattle.words.specs.Laws.{refused_for_certain}
 use Rattle.pieces.specs.Refusal.{is_memory}
 use Rattle.pieces.specs.Word.{is_this}
 use Rattle.pieces.specs.Number.{is_absent}
-use Rattle.pieces.proofs.WordLemmas.{is_this_within}
+use Rattle.pieces.specs.WordLaws.{is_this_within}
 use Rattle.history_log.specs.Runs.{run_at}
 use Rattle.history_log.proofs.RunsLemmas.{run_behind, no_runs, runs_begin, runs_on, runs_done, runs_refused, absent_within}
 use Rattle.history_log.proofs.RunsFits.{more_runs}

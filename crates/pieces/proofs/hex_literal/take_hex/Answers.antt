@@ -1,6 +1,8 @@
-use Rattle.std.proofs.Common.{rules}
+use Rattle.std.proofs.Common.{◌≡◌, true, rules}
 use Rattle.std.proofs.lemmas.Result.{err_from_is_err_and}
-use Rattle.pieces.proofs.HexFits.{given_fits}
+use Rattle.words.specs.Holds.{of_read}
+use Rattle.pieces.specs.HexLiteral.{hex_at, are_bytes}
+use Rattle.pieces.specs.HexLaws.{hex_fits}
 use Rattle.pieces.proofs.hex_literal.take_hex.Goals as goal
 
 pub returns-in_err-bytes-clause-exact : goal.returns-in_err-bytes-clause-exact
@@ -9,4 +11,8 @@ returns-in_err-bytes-clause-exact c =
     rw (p.1, p.2) tt
 
 pub returns-clause-bytes : goal.returns-clause-bytes
-returns-clause-bytes c = given_fits c.args.text.now c.args.place (c.in_ok-bytes.bytes, c.in_ok-after.after) (search rules)
+returns-clause-bytes c =
+    let text = c.args.text.now in
+    let place = c.args.place in
+    of_read (λ read. are_bytes read.0 ≡ true) (hex_at text place) (c.in_ok-bytes.bytes, c.in_ok-after.after)
+    (search rules) (hex_fits text place)

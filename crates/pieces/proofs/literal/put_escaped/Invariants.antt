@@ -1,6 +1,6 @@
 use Rattle.std.proofs.Common.{◌≡◌, ◌++◌, take, string_bytes, flat_map, IsCharBoundary}
 use Rattle.pieces.specs.Literal.{escape}
-use Rattle.pieces.proofs.LiteralRuns.{IsRun}
+use Rattle.pieces.specs.LiteralLaws.{IsRun}
 use Rattle.pieces.proofs.literal.put_escaped.Given as goal
 
 abbrev pub invariant-loop-at : goal.invariant-loop-at

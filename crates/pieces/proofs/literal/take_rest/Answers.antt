@@ -31,7 +31,8 @@ runs-preserved c =
       before = omega (arith, c.runs.invariant.before, c.plain_end-end.ensures.from);
       within = omega (arith, within.0);
       boundary = rw two at (IsCharBoundary-after_ascii text (end + 1) c.utf8.text within.0 ascii.0);
-      read = read_escape text at end other (string_bytes c.runs.content) (string_bytes c.push_str.new.self) (string_bytes c.push.new.self) c.range.result.now run escape c.range.ensures.value c.in_ok-push_str.ensures.bytes (c.in_ok-push.ensures.bytes ∙ ap (λ (l : List ℕ). string_bytes c.push_str.new.self ++ l) (c.in_ok-push.ensures.ascii ascii.1)) ∙ c.runs.invariant.read;
+      read = read_escape text at end other (string_bytes c.runs.content) (string_bytes c.push_str.new.self) (string_bytes c.push.new.self) c.range.result.now run escape c.range.ensures.value c.in_ok-push_str.ensures.bytes
+          (c.in_ok-push.ensures.bytes ∙ ap (λ (l : List ℕ). string_bytes c.push_str.new.self ++ l) (c.in_ok-push.ensures.ascii ascii.1)) ∙ c.runs.invariant.read;
     }
 
 pub returns-in_default-clause-exact : goal.returns-in_default-clause-exact

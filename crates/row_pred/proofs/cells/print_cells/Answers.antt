@@ -1,6 +1,6 @@
 use Rattle.std.proofs.Common.{◌≡◌, rules}
 use Rattle.row_pred.specs.Cells.{cells_text}
-use Rattle.row_pred.proofs.CellsLaws.{text_again}
+use Rattle.row_pred.specs.CellsLaws.{text_again}
 use Rattle.row_pred.proofs.cells.print_cells.Goals as goal
 
 pub returns-clause-reads_back : goal.returns-clause-reads_back
