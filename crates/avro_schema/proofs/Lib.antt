@@ -1,8 +1,6 @@
 pub mod SeenLaws
 pub mod NameLaws
-pub mod MemberLaws
 pub mod ItemLaws
-pub mod PartLaws
 pub mod TextLaws
 mod Puts
 mod TakenLaws
@@ -17,17 +15,4 @@ mod KnownUnions
 mod KnownFields
 mod KnownRecords
 mod PrintedAgain
-pub mod Steps
-pub mod PrimitiveLaws
-pub mod MeansPart
-pub mod Found
-pub mod FoundBranches
-pub mod FoundFields
-pub mod FoundObject
-pub mod MeansFound
-pub mod Only
-pub mod OnlyBranches
-pub mod OnlyFields
-pub mod OnlyObject
-pub mod MeansOnly
 pub mod MeansText

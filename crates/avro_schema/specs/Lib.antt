@@ -8,3 +8,4 @@ pub mod Printing
 pub mod Putting
 pub mod Printable
 pub mod Meaning
+pub mod Laws

@@ -3,18 +3,21 @@ use Rattle.std.proofs.Common.{ℕ, zero, suc, refl, arith}
 use Rattle.serde_json.specs.Data.{null, boolean, number, string, array, object}
 use Rattle.serde_json.specs.Read.{read}
 use Rattle.avro_schema.specs.Reading.{Reader, primitive_of, layer_at, no_schema, schema_at}
-use Rattle.avro_schema.proofs.Found.{Found, Finds, word_found}
-use Rattle.avro_schema.proofs.FoundBranches.{union_found}
-use Rattle.avro_schema.proofs.FoundObject.{object_found}
+use Rattle.avro_schema.specs.Laws.Found.{Found, Finds, word_found}
+use Rattle.avro_schema.specs.Laws.FoundBranches.{union_found}
+use Rattle.avro_schema.specs.Laws.FoundObject.{object_found}
 
 -- one layer
 layer_found : (room : ℕ) (schema_in : Reader) → Finds 1 room schema_in → Finds 0 room (layer_at schema_in room)
 layer_found room schema_in finds scope seen null taken read = absurd cc
 layer_found room schema_in finds scope seen (boolean flag) taken read = absurd cc
 layer_found room schema_in finds scope seen (number num) taken read = absurd cc
-layer_found room schema_in finds scope seen (string word) taken read = word_found room scope word seen (primitive_of word) taken refl read
-layer_found room schema_in finds scope seen (array items) taken read = union_found room schema_in finds scope seen items taken read
-layer_found room schema_in finds scope seen (object pairs) taken read = object_found room schema_in finds scope seen pairs taken read
+layer_found room schema_in finds scope seen (string word) taken read =
+    word_found room scope word seen (primitive_of word) taken refl read
+layer_found room schema_in finds scope seen (array items) taken read =
+    union_found room schema_in finds scope seen items taken read
+layer_found room schema_in finds scope seen (object pairs) taken read =
+    object_found room schema_in finds scope seen pairs taken read
 
 -- a schema in one stands one level below it
 one_below : (room : ℕ) (schema_in : Reader) → Finds 0 room schema_in → Finds 1 (suc room) schema_in
