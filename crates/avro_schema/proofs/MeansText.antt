@@ -6,7 +6,7 @@ use Rattle.avro_schema.specs.declared.refusal.SchemaRefusal.{SchemaRefusal}
 use Rattle.avro_schema.specs.Refusal.{is_memory}
 use Rattle.avro_schema.specs.Reading.{schema_of}
 use Rattle.avro_schema.specs.Meaning.{IsSchemaText}
-use Rattle.avro_schema.specs.Laws.{schema_found, schema_only}
+use Rattle.avro_schema.proofs.TextMeaning.{schema_found, schema_only}
 
 -- what is answered is the schema that the text is
 pub answers_found : (text : List ℕ) (result : Result Schema SchemaRefusal) → Gives is_memory (λ schema. schema) result (schema_of text) → IfOk result (λ schema. IsSchemaText text schema)

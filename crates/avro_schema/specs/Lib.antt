@@ -8,4 +8,3 @@ pub mod Printing
 pub mod Putting
 pub mod Printable
 pub mod Meaning
-pub mod Laws

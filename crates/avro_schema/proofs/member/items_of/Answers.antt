@@ -1,6 +1,6 @@
 use Rattle.std.proofs.Common.{map}
 use Rattle.serde_json.specs.View.{view}
-use Rattle.avro_schema.specs.Laws.MemberLaws.{list_found}
+use Rattle.avro_schema.proofs.MemberLaws.{list_found}
 use Rattle.avro_schema.proofs.member.items_of.Goals as goal
 
 pub returns-in-Some : goal.returns-in-Some

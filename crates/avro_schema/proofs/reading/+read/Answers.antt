@@ -9,7 +9,7 @@ use Rattle.schema_tree.specs.declared.schema.Field.{Field}
 use Rattle.avro_schema.specs.Parts.{schema_below}
 use Rattle.avro_schema.specs.Reading.{Reader}
 use Rattle.avro_schema.specs.Refusal.{is_memory}
-use Rattle.avro_schema.specs.Laws.PartLaws.{below_layer, below_none, layer_array}
+use Rattle.avro_schema.proofs.PartLaws.{below_layer, below_none, layer_array}
 use Rattle.avro_schema.proofs.ItemLaws.{under_gives, under_refuses, fields_on, fields_fail, fields_end, branches_on, branches_fail, branches_end}
 use Rattle.avro_schema.proofs.reading.+read.Goals as goal
 

@@ -8,7 +8,7 @@ use Rattle.avro_schema.specs.declared.refusal.SchemaRefusal.TheVariants.{Nesting
 use Rattle.avro_schema.specs.Defined.{Seen}
 use Rattle.avro_schema.specs.Reading.{Reader, layer_at, union_at, schema_at}
 use Rattle.avro_schema.specs.Parts.{schema_below}
-use Rattle.avro_schema.specs.Laws.MemberLaws.{values_of-items_of}
+use Rattle.avro_schema.proofs.MemberLaws.{values_of-items_of}
 
 -- a schema, over the reader of those in it
 pub schema_layer : (room : ℕ) → schema_at room ≡ layer_at (schema_below room) room

@@ -60,7 +60,7 @@ use Rattle.avro_schema.specs.Meaning.{
   HasType,
 }
 use Rattle.words.specs.Steps.{bind_then, either_then, ok_is}
-use Rattle.avro_schema.specs.Laws.Steps.{count_then, more, under_ok}
+use Rattle.avro_schema.proofs.Steps.{count_then, more, under_ok}
 use Rattle.schema_tree.specs.TreeLaws.{
   IsAlone,
   alone-Fixed,
@@ -72,10 +72,10 @@ use Rattle.schema_tree.specs.TreeLaws.{
   depth-Map,
   size-Map,
 }
-use Rattle.avro_schema.specs.Laws.PrimitiveLaws.{alone_primitive, alone_logical}
-use Rattle.avro_schema.specs.Laws.MeansPart.{name_found, needed_found, TextsFound, texts_found}
-use Rattle.avro_schema.specs.Laws.Found.{Found, Finds}
-use Rattle.avro_schema.specs.Laws.FoundFields.{FieldsFound, fields_found}
+use Rattle.avro_schema.proofs.PrimitiveLaws.{alone_primitive, alone_logical}
+use Rattle.avro_schema.proofs.MeansPart.{name_found, needed_found, TextsFound, texts_found}
+use Rattle.avro_schema.proofs.Found.{Found, Finds}
+use Rattle.avro_schema.proofs.FoundFields.{FieldsFound, fields_found}
 
 module _ (room : ℕ) (schema_in : Reader) (finds : Finds 1 room schema_in) (scope : List ℕ) (seen : Seen)
     (members : Members) (level : 1 ≤ room) (few : seen.count + 1 ≤ 65536) where

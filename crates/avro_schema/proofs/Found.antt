@@ -7,9 +7,9 @@ use Rattle.avro_schema.specs.Defined.{Seen, known_as, full_name}
 use Rattle.avro_schema.specs.Reading.{Reader, primitive_of, counted, use_of, word_at}
 use Rattle.avro_schema.specs.Meaning.{Means, primitive_word, name}
 use Rattle.words.specs.Steps.{map_then}
-use Rattle.avro_schema.specs.Laws.Steps.{count_then, more}
+use Rattle.avro_schema.proofs.Steps.{count_then, more}
 use Rattle.schema_tree.specs.TreeLaws.{IsAlone}
-use Rattle.avro_schema.specs.Laws.PrimitiveLaws.{alone_primitive}
+use Rattle.avro_schema.proofs.PrimitiveLaws.{alone_primitive}
 
 -- what was read is the schema that the value means, counted, with room for so many levels above it
 pub record Found (above room : ℕ) (scope : List ℕ) (seen : Seen) (value : Data) (taken : Schema × Seen) : Type 0 where

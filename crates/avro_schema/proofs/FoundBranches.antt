@@ -28,10 +28,10 @@ use Rattle.avro_schema.specs.Defined.{Seen}
 use Rattle.avro_schema.specs.Reading.{Reader, counted, branch_at, branches_at, union_at}
 use Rattle.avro_schema.specs.Meaning.{union, AreBranches, no_branch, branch, IsNoUnion}
 use Rattle.words.specs.Steps.{bind_then, map_then, ok_is}
-use Rattle.avro_schema.specs.Laws.Steps.{count_then, more, under_ok}
+use Rattle.avro_schema.proofs.Steps.{count_then, more, under_ok}
 use Rattle.schema_tree.specs.TreeLaws.{depth-Union, size-Union, branches_cons}
-use Rattle.avro_schema.specs.Laws.MeansPart.{branch_then}
-use Rattle.avro_schema.specs.Laws.Found.{Found, Finds}
+use Rattle.avro_schema.proofs.MeansPart.{branch_then}
+use Rattle.avro_schema.proofs.Found.{Found, Finds}
 
 -- branches that were read stand behind those before
 pub record BranchesFound (room : ℕ) (scope : List ℕ) (before : List Schema) (seen : Seen) (values : List Data)

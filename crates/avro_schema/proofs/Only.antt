@@ -10,11 +10,11 @@ use Rattle.avro_schema.specs.declared.refusal.SchemaRefusal.{SchemaRefusal}
 use Rattle.avro_schema.specs.Defined.{Definitions, Seen, known_as, full_name}
 use Rattle.avro_schema.specs.Parts.{schema_below}
 use Rattle.avro_schema.specs.Reading.{Reader, primitive_of, use_of, word_at, fields_at, branches_at, schema_at}
-use Rattle.avro_schema.specs.Laws.PartLaws.{schema_layer}
+use Rattle.avro_schema.proofs.PartLaws.{schema_layer}
 use Rattle.words.specs.Steps.{read_as}
-use Rattle.avro_schema.specs.Laws.Steps.{count_only, met}
+use Rattle.avro_schema.proofs.Steps.{count_only, met}
 use Rattle.schema_tree.specs.TreeLaws.{IsAlone}
-use Rattle.avro_schema.specs.Laws.PrimitiveLaws.{alone_primitive}
+use Rattle.avro_schema.proofs.PrimitiveLaws.{alone_primitive}
 
 -- the schema is read of the value, with room for its levels and its count
 abbrev pub IsRead : List ℕ → Definitions → Data → Schema → Definitions → Type 0

@@ -46,7 +46,7 @@ use Rattle.avro_schema.specs.Reading.{
 }
 use Rattle.avro_schema.specs.Meaning.{Defines, AreTexts, IsNoUnion}
 use Rattle.words.specs.Steps.{bind_then, test_then, ok_is}
-use Rattle.avro_schema.specs.Laws.Steps.{form_ok}
+use Rattle.avro_schema.proofs.Steps.{form_ok}
 
 -- ---- the name of a definition
 

@@ -23,9 +23,9 @@ use Rattle.avro_schema.specs.Reading.{
   schema_at,
 }
 use Rattle.avro_schema.specs.Meaning.{Defines, AreTexts, HasType}
-use Rattle.avro_schema.specs.Laws.PartLaws.{schema_layer}
+use Rattle.avro_schema.proofs.PartLaws.{schema_layer}
 use Rattle.words.specs.Steps.{bind_only}
-use Rattle.avro_schema.specs.Laws.Steps.{count_only, met}
+use Rattle.avro_schema.proofs.Steps.{count_only, met}
 use Rattle.schema_tree.specs.TreeLaws.{
   IsAlone,
   alone-Fixed,
@@ -37,9 +37,9 @@ use Rattle.schema_tree.specs.TreeLaws.{
   depth-Map,
   size-Map,
 }
-use Rattle.avro_schema.specs.Laws.PrimitiveLaws.{alone_primitive, alone_logical}
-use Rattle.avro_schema.specs.Laws.MeansPart.{name_only, needed_only, texts_only}
-use Rattle.avro_schema.specs.Laws.Only.{IsRead, AreFieldsRead, below_only, same_count}
+use Rattle.avro_schema.proofs.PrimitiveLaws.{alone_primitive, alone_logical}
+use Rattle.avro_schema.proofs.MeansPart.{name_only, needed_only, texts_only}
+use Rattle.avro_schema.proofs.Only.{IsRead, AreFieldsRead, below_only, same_count}
 
 module _ (scope : List ℕ) (names : Definitions) (members : Members) where
   -- an object, by the word of its type

@@ -32,10 +32,10 @@ use Rattle.avro_schema.specs.Defined.{Definitions}
 use Rattle.avro_schema.specs.Parts.{schema_below}
 use Rattle.avro_schema.specs.Reading.{has_field, new_field_name, field_at, fields_at}
 use Rattle.words.specs.Steps.{bind_only}
-use Rattle.avro_schema.specs.Laws.Steps.{met}
+use Rattle.avro_schema.proofs.Steps.{met}
 use Rattle.schema_tree.specs.TreeLaws.{field_of, depth-push, size-push}
-use Rattle.avro_schema.specs.Laws.MeansPart.{new_only, needed_only}
-use Rattle.avro_schema.specs.Laws.Only.{IsRead, AreFieldsRead, below_only}
+use Rattle.avro_schema.proofs.MeansPart.{new_only, needed_only}
+use Rattle.avro_schema.proofs.Only.{IsRead, AreFieldsRead, below_only}
 
 -- no field
 pub no_field_only : (scope : List ℕ) (names : Definitions) (before : List Field)

@@ -3,9 +3,9 @@ use Rattle.std.proofs.Common.{ℕ, zero, suc, refl, arith}
 use Rattle.serde_json.specs.Data.{null, boolean, number, string, array, object}
 use Rattle.serde_json.specs.Read.{read}
 use Rattle.avro_schema.specs.Reading.{Reader, primitive_of, layer_at, no_schema, schema_at}
-use Rattle.avro_schema.specs.Laws.Found.{Found, Finds, word_found}
-use Rattle.avro_schema.specs.Laws.FoundBranches.{union_found}
-use Rattle.avro_schema.specs.Laws.FoundObject.{object_found}
+use Rattle.avro_schema.proofs.Found.{Found, Finds, word_found}
+use Rattle.avro_schema.proofs.FoundBranches.{union_found}
+use Rattle.avro_schema.proofs.FoundObject.{object_found}
 
 -- one layer
 layer_found : (room : ℕ) (schema_in : Reader) → Finds 1 room schema_in → Finds 0 room (layer_at schema_in room)

@@ -31,12 +31,12 @@ use Rattle.avro_schema.specs.Defined.{Definitions, Seen}
 use Rattle.avro_schema.specs.Parts.{schema_below}
 use Rattle.avro_schema.specs.Reading.{Reader, branch_at, branches_at, union_at}
 use Rattle.avro_schema.specs.Meaning.{IsNoUnion}
-use Rattle.avro_schema.specs.Laws.PartLaws.{schema_layer}
+use Rattle.avro_schema.proofs.PartLaws.{schema_layer}
 use Rattle.words.specs.Steps.{bind_only}
-use Rattle.avro_schema.specs.Laws.Steps.{count_only, met}
+use Rattle.avro_schema.proofs.Steps.{count_only, met}
 use Rattle.schema_tree.specs.TreeLaws.{depth-Union, size-Union, branches_cons}
-use Rattle.avro_schema.specs.Laws.MeansPart.{branch_only}
-use Rattle.avro_schema.specs.Laws.Only.{IsRead, AreBranchesRead, below_only, same_count}
+use Rattle.avro_schema.proofs.MeansPart.{branch_only}
+use Rattle.avro_schema.proofs.Only.{IsRead, AreBranchesRead, below_only, same_count}
 
 -- no branch
 pub no_branch_only : (scope : List ℕ) (names : Definitions) → AreBranchesRead scope names [] [] names

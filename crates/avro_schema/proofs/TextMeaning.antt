@@ -1,19 +1,4 @@
--- A text is the schema that the reader makes of it, and no other. The steps of the proof stand in Laws/.
-pub mod Steps
-pub mod MemberLaws
-pub mod PrimitiveLaws
-pub mod PartLaws
-pub mod MeansPart
-pub mod Found
-pub mod FoundBranches
-pub mod FoundFields
-pub mod FoundObject
-pub mod MeansFound
-pub mod Only
-pub mod OnlyBranches
-pub mod OnlyFields
-pub mod OnlyObject
-pub mod MeansOnly
+-- A text is the schema that the reader makes of it, and no other.
 use Rattle.std.proofs.Common.{◌≡◌, ℕ, List, [], Option, Some, None, Ok, refl, sym, ap, subst, ◌∙◌, arith}
 use Rattle.words.specs.Reading.{map_value}
 use Rattle.serde_json.specs.Data.{Data}
@@ -24,10 +9,10 @@ use Rattle.avro_schema.specs.Defined.{Seen, nothing_seen}
 use Rattle.avro_schema.specs.Reading.{schema_at, schema_of, schema_of_value, schema_of_json}
 use Rattle.avro_schema.specs.Meaning.{Means, IsSchema, IsSchemaText}
 use Rattle.words.specs.Steps.{map_then, ok_is}
-use Rattle.avro_schema.specs.Laws.Found.{Found as IsFound}
-use Rattle.avro_schema.specs.Laws.MeansFound.{finds_at}
-use Rattle.avro_schema.specs.Laws.Only.{IsRead}
-use Rattle.avro_schema.specs.Laws.MeansOnly.{means_only}
+use Rattle.avro_schema.proofs.Found.{Found as IsFound}
+use Rattle.avro_schema.proofs.MeansFound.{finds_at}
+use Rattle.avro_schema.proofs.Only.{IsRead}
+use Rattle.avro_schema.proofs.MeansOnly.{means_only}
 
 -- ---- the reader is right
 

@@ -23,10 +23,10 @@ use Rattle.avro_schema.specs.Meaning.{
   field,
 }
 use Rattle.schema_tree.specs.TreeLaws.{depth-push, size-push}
-use Rattle.avro_schema.specs.Laws.Only.{IsRead, AreBranchesRead, AreFieldsRead, primitive_only, use_only}
-use Rattle.avro_schema.specs.Laws.OnlyBranches.{no_branch_only, one_branch_only, union_only}
-use Rattle.avro_schema.specs.Laws.OnlyFields.{no_field_only, one_field_only}
-use Rattle.avro_schema.specs.Laws.OnlyObject.{
+use Rattle.avro_schema.proofs.Only.{IsRead, AreBranchesRead, AreFieldsRead, primitive_only, use_only}
+use Rattle.avro_schema.proofs.OnlyBranches.{no_branch_only, one_branch_only, union_only}
+use Rattle.avro_schema.proofs.OnlyFields.{no_field_only, one_field_only}
+use Rattle.avro_schema.proofs.OnlyObject.{
   primitive_type_only,
   record_only,
   enum_only,

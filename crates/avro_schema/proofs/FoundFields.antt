@@ -29,10 +29,10 @@ use Rattle.avro_schema.specs.Defined.{Seen}
 use Rattle.avro_schema.specs.Reading.{Reader, new_field_name, field_at, fields_at}
 use Rattle.avro_schema.specs.Meaning.{AreFields, no_field, field}
 use Rattle.words.specs.Steps.{bind_then, ok_is}
-use Rattle.avro_schema.specs.Laws.Steps.{under_ok}
+use Rattle.avro_schema.proofs.Steps.{under_ok}
 use Rattle.schema_tree.specs.TreeLaws.{field_of, depth-push, size-push}
-use Rattle.avro_schema.specs.Laws.MeansPart.{new_then, needed_found}
-use Rattle.avro_schema.specs.Laws.Found.{Found, Finds}
+use Rattle.avro_schema.proofs.MeansPart.{new_then, needed_found}
+use Rattle.avro_schema.proofs.Found.{Found, Finds}
 
 -- fields that were read stand behind those before
 pub record FieldsFound (room : ℕ) (scope : List ℕ) (before : List Field) (seen : Seen) (values : List Data)
