@@ -4,11 +4,11 @@ mod BehindLemmas
 mod RulesLemmas
 mod StepLemmas
 mod HistoryLemmas
-pub mod RequestSteps
-pub mod RequestLaws
+mod RequestSteps
+mod RequestLaws
 mod RunsLemmas
 mod RunsLaws
 mod RunsFits
-pub mod RequestFits
+mod RequestFits
 mod EntryLemmas
-pub mod EntryLaws
+mod EntryLaws

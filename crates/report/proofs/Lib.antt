@@ -2,8 +2,8 @@ mod SchemaLemmas
 mod RowsLemmas
 mod FitsLemmas
 mod ReportLemmas
-pub mod PrintedColumns
-pub mod PrintedLines
-pub mod PrintedBytes
-pub mod PrintedInner
-pub mod PrintedReport
+mod PrintedColumns
+mod PrintedLines
+mod PrintedBytes
+mod PrintedInner
+mod PrintedReport

@@ -8,7 +8,6 @@ use Rattle.row_types.specs.declared.column.Column.{Column}
 use Rattle.history_types.specs.declared.entry.Entry.{Entry}
 use Rattle.row_types.specs.declared.row.Row.{Row}
 use Rattle.row_types.specs.Fits.{is_long, IsRow}
-use Rattle.history_types.specs.Fits.{FitsEntry}
 use Rattle.pieces.specs.Word.{spaces, gap_at}
 use Rattle.pieces.specs.Number.{optional_text}
 use Rattle.words.specs.Parts.{behind_is}
