@@ -5,7 +5,7 @@ use Rattle.std.specs.List.{flat_map}
 use Rattle.std.proofs.lemmas.List.{take-append-drop}
 use Rattle.std.proofs.lemmas.Grind.{flat_map-append}
 use Rattle.pieces.specs.Literal.{escape}
-use Rattle.pieces.proofs.LiteralRuns.{IsRun, run_ends}
+use Rattle.pieces.specs.LiteralLaws.{IsRun, run_ends}
 
 -- the text up to a place, and what stands from there on
 pub run_splits : (text : List ℕ) (at : ℕ) → flat_map escape text ≡ flat_map escape (take at text) ++ flat_map escape (drop at text)

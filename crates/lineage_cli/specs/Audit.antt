@@ -17,7 +17,9 @@ row_count state = length state.rows + length state.unnamed
 
 -- the line of a legal history: how many entries there are, how many rows then, and the next id
 abbrev pub legal_line : ℕ → State → List ℕ
-legal_line entries state = spaced (codes "legal") ++ (spaced (decimal entries) ++ (spaced (decimal (row_count state)) ++ (optional_text state.next ++ codes "\n")))
+legal_line entries state =
+    spaced (codes "legal") ++ (spaced (decimal entries)
+    ++ (spaced (decimal (row_count state)) ++ (optional_text state.next ++ codes "\n")))
 
 -- how the run ends for bytes that are no report
 abbrev pub of_report : ReportRefusal → Ending

@@ -9,7 +9,8 @@ pub data RefusalClass : Type 0 where
   Memory : RefusalClass
   Limit : RefusalClass
 
--- how a run ended: the bytes of the input are refused, the words are no command, the input or the output failed, or memory ran out
+-- how a run ended: the bytes of the input are refused, the words are no command, the input or the output failed,
+-- or memory ran out
 pub data Class : Type 0 where
   Refused : RefusalClass → Class
   Usage : Class

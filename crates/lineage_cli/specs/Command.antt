@@ -8,7 +8,10 @@ abbrev pub first_word : Option ℕ → List ℕ
 first_word None = codes "-"
 first_word (Some id) = decimal id
 
--- the words have the form of this command: its name, and for rows a first row id, perhaps none, and a sequence number in decimal
+-- the words have the form of this command: its name, and for rows a first row id, perhaps none,
+-- and a sequence number in decimal
 abbrev pub Asks : List (List ℕ) → Command → Type 0
-Asks words (Rows first sequence) = IfSome first (λ id. id < 2 ^ 63) × (sequence < 2 ^ 63) × (words ≡ codes "rows" ∷ first_word first ∷ decimal sequence ∷ [])
+Asks words (Rows first sequence) =
+    IfSome first (λ id. id < 2 ^ 63) × (sequence < 2 ^ 63)
+    × (words ≡ codes "rows" ∷ first_word first ∷ decimal sequence ∷ [])
 Asks words Audit = words ≡ codes "audit" ∷ []

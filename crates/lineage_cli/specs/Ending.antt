@@ -15,7 +15,8 @@ use Rattle.datum_reading.specs.declared.refusal.DatumRefusal.TheVariants as datu
 use Rattle.row_file.specs.declared.refusal.RowRefusal.{RowRefusal}
 use Rattle.row_file.specs.declared.refusal.RowRefusal.TheVariants as refusals
 use Rattle.lineage_cli.specs.declared.ending.Ending.{Ending}
-use Rattle.lineage_cli.specs.declared.ending.Ending.TheVariants.{Usage, InputFault, InputLimit, Input, Table, Illegal, OutFault, Memory}
+use Rattle.lineage_cli.specs.declared.ending.Ending.TheVariants.{Usage, InputFault, InputLimit, Input, Table, Illegal,
+  OutFault, Memory}
 use Rattle.lineage_model.specs.RuleName.{name_of}
 use Rattle.lineage_cli.specs.Class.{RefusalClass, Class, class_status}
 
@@ -143,4 +144,5 @@ line_of OutFault = codes "rowline: fault OutFault\n"
 line_of Memory = codes "rowline: memory\n"
 line_of (InputLimit found) = numbered (codes "rowline: limit Input ") found
 line_of (Input line) = numbered (codes "rowline: input ") line
-line_of (Illegal entry rule) = codes "rowline: refused Illegal " ++ ((decimal entry ++ (codes " " ++ name_of rule)) ++ codes "\n")
+line_of (Illegal entry rule) =
+    codes "rowline: refused Illegal " ++ ((decimal entry ++ (codes " " ++ name_of rule)) ++ codes "\n")

@@ -17,5 +17,9 @@ abbrev pub shown : Option (List ℕ) → List ℕ → Option (List ℕ)
 shown written buffer = append_known written buffer
 
 -- the text stands behind what is shown, or a front of it was written where the call failed
-abbrev pub Shows : {E : Type 0} → Option (List ℕ) → List ℕ → Option (List ℕ) → List ℕ → Result (Unit {0}) E → List ℕ → Type 0
-Shows before waiting now waits result text = MatchResult result (λ _. Appends (shown before waiting) (shown now waits) text) (λ _. AppendsFront (shown before waiting) now text)
+abbrev pub Shows : {E : Type 0} → Option (List ℕ) → List ℕ → Option (List ℕ) → List ℕ → Result (Unit {0}) E → List ℕ
+    → Type 0
+Shows before waiting now waits result text =
+    MatchResult result
+    (λ _. Appends (shown before waiting) (shown now waits) text)
+    (λ _. AppendsFront (shown before waiting) now text)

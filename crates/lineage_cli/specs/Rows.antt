@@ -12,8 +12,11 @@ use Rattle.row_file.specs.Stored.{ReadsRows}
 
 -- the rows of a file by its own columns, with its first row id, where it has one, and its data sequence number
 unfoldable pub file_rows : Option ℕ → ℕ → List ℕ → Result (List Row) RowRefusal
-file_rows first sequence bytes = file_columns_of bytes >>= λ columns. rows_of bytes columns (option_map pos first) (pos sequence) None
+file_rows first sequence bytes =
+    file_columns_of bytes >>= λ columns. rows_of bytes columns (option_map pos first) (pos sequence) None
 
 -- the rows are those that the file stores, by its own columns, each read at its position
 abbrev pub AreStored : Option ℕ → ℕ → List ℕ → List Row → Type 0
-AreStored first sequence bytes rows = (columns : List Column) × (file_columns_of bytes ≡ Ok columns) × ReadsRows bytes columns (option_map pos first) (pos sequence) rows
+AreStored first sequence bytes rows =
+    (columns : List Column) × (file_columns_of bytes ≡ Ok columns)
+    × ReadsRows bytes columns (option_map pos first) (pos sequence) rows

@@ -1,5 +1,6 @@
 -- What a command answers for the bytes of its input, and why a run ended as it did.
-use Rattle.std.specs.Prelude.{◌≡◌, ◌≤◌, ◌+◌, ℕ, Bool, true, false, ◌⊎◌, List, [], length, Option, Result, Ok, Err, IsErrOf, nat_lt, if◌then◌else◌}
+use Rattle.std.specs.Prelude.{◌≡◌, ◌≤◌, ◌+◌, ℕ, Bool, true, false, ◌⊎◌, List, [], length, Option, Result, Ok, Err,
+  IsErrOf, nat_lt, if◌then◌else◌}
 use Rattle.std.specs.Io.KnownBytes.{Appends, Keeps, Consumes, IsAtEnd}
 use Rattle.words.specs.Reading.{◌>>=◌, map_refusal, value_or}
 use Rattle.lt_port.specs.Faults.{Rose}
@@ -26,7 +27,9 @@ answer_of Audit bytes = audit_answer bytes
 
 -- what the command prints for these bytes, or how it ends
 abbrev pub answer_to : Command → List ℕ → Result (List ℕ) Ending
-answer_to command bytes = if nat_lt (most_input command) (length bytes) then Err (InputLimit (most_input command + 1)) else answer_of command bytes
+answer_to command bytes =
+    if nat_lt (most_input command) (length bytes) then Err (InputLimit (most_input command + 1))
+    else answer_of command bytes
 
 -- a source or a sink at one moment: the bytes that are left or written, where it tells them, and its count of faults
 pub record Stream : Type 0 where
@@ -53,7 +56,8 @@ pub record IsRefused (answer : Result (List ℕ) Ending) (ending : Ending) (out 
   pub cause : answer ≡ Err ending
   pub kept : Keeps out.bytes outs.bytes
 
--- why a run whose input was read ended so, by the class of its ending; if memory ran out, it ended anywhere, with a front of the answer
+-- why a run whose input was read ended so, by the class of its ending;
+-- if memory ran out, it ended anywhere, with a front of the answer
 abbrev pub IsOutcomeOf : Class → Result (List ℕ) Ending → Ending → Stream → Stream → Type 0
 IsOutcomeOf (Class.Refused refusal) answer ending out outs = IsRefused answer ending out outs
 IsOutcomeOf Class.OutFault answer ending out outs = IsCut answer out outs
@@ -75,8 +79,10 @@ is_memory _ = false
 
 -- why the input was not read: it failed, more bytes were left than may be, or memory ran out
 abbrev pub WhyNotRead : ℕ → Ending → Stream → Stream → Type 0
-WhyNotRead most InputFault input inputs = Rose input.faults inputs.faults × StopsBy most input.bytes inputs.bytes refusals.Fault
-WhyNotRead most (InputLimit found) input inputs = (found ≡ most + 1) × StopsBy most input.bytes inputs.bytes refusals.Limit
+WhyNotRead most InputFault input inputs =
+    Rose input.faults inputs.faults × StopsBy most input.bytes inputs.bytes refusals.Fault
+WhyNotRead most (InputLimit found) input inputs =
+    (found ≡ most + 1) × StopsBy most input.bytes inputs.bytes refusals.Limit
 WhyNotRead most Memory input inputs = Unit {0}
 WhyNotRead most _ input inputs = ⊥
 
@@ -88,12 +94,16 @@ pub record IsRead (command : Command) (input inputs out outs : Stream) (ended : 
   pub end : length bytes ≤ most_input command → IsAtEnd inputs.bytes
   pub outcome : IsOutcome (answer_to command bytes) out outs ended
 
--- why the run of a command ended so, by the class of its ending: by what was read, unless the input failed or memory ran out before; then nothing is printed
+-- why the run of a command ended so, by the class of its ending: by what was read,
+-- unless the input failed or memory ran out before; then nothing is printed
 abbrev pub IsReasonOf : Class → Command → Ending → Stream → Stream → Stream → Stream → Type 0
-IsReasonOf (Class.Refused refusal) command ending input inputs out outs = IsRead command input inputs out outs (Err ending)
+IsReasonOf (Class.Refused refusal) command ending input inputs out outs =
+    IsRead command input inputs out outs (Err ending)
 IsReasonOf Class.OutFault command ending input inputs out outs = IsRead command input inputs out outs (Err ending)
-IsReasonOf Class.InputFault command ending input inputs out outs = WhyNotRead (most_input command) ending input inputs × Keeps out.bytes outs.bytes
-IsReasonOf Class.Memory command ending input inputs out outs = IsRead command input inputs out outs (Err ending) ⊎ Keeps out.bytes outs.bytes
+IsReasonOf Class.InputFault command ending input inputs out outs =
+    WhyNotRead (most_input command) ending input inputs × Keeps out.bytes outs.bytes
+IsReasonOf Class.Memory command ending input inputs out outs =
+    IsRead command input inputs out outs (Err ending) ⊎ Keeps out.bytes outs.bytes
 IsReasonOf Class.Usage command ending input inputs out outs = ⊥
 
 -- why the run of a command ended so, or why it answered
@@ -104,13 +114,15 @@ IsReason command input inputs out outs (Err ending) = IsReasonOf (class_of endin
 -- ---- a run
 
 -- the words ask for this command, and the run ended for a reason that is the command's
-pub record IsAsked (words : List (List ℕ)) (input inputs out outs : Stream) (ended : Result (Unit {0}) Ending) : Type 0 where
+pub record IsAsked (words : List (List ℕ)) (input inputs out outs : Stream) (ended : Result (Unit {0}) Ending)
+    : Type 0 where
   pub command : Command
   pub asks : Asks words command
   pub reason : IsReason command input inputs out outs ended
 
 -- the words ask for no command, and nothing was touched
-pub record IsUnasked (words : List (List ℕ)) (input inputs out outs : Stream) (ended : Result (Unit {0}) Ending) : Type 0 where
+pub record IsUnasked (words : List (List ℕ)) (input inputs out outs : Stream) (ended : Result (Unit {0}) Ending)
+    : Type 0 where
   pub none : (command : Command) → Asks words command → ⊥
   pub usage : ended ≡ Err Usage
   pub input_kept : inputs ≡ input
@@ -118,7 +130,8 @@ pub record IsUnasked (words : List (List ℕ)) (input inputs out outs : Stream) 
 
 -- what the words ask for was done, or why not
 abbrev pub IsServed : List (List ℕ) → Stream → Stream → Stream → Stream → Result (Unit {0}) Ending → Type 0
-IsServed words input inputs out outs ended = IsAsked words input inputs out outs ended ⊎ IsUnasked words input inputs out outs ended
+IsServed words input inputs out outs ended =
+    IsAsked words input inputs out outs ended ⊎ IsUnasked words input inputs out outs ended
 
 -- err gained the line, or a front of it where it failed or wanted memory
 pub record IsTold (line : List ℕ) (err errs : Stream) : Type 0 where

@@ -12,7 +12,8 @@ spaced piece = piece ++ codes " "
 
 -- a row on a line: its id, or - where it has none, its last change, and its cells
 abbrev pub row_line : Row → List ℕ
-row_line row = spaced (optional_text row.id) ++ (spaced (signed_decimal row.last) ++ (cells_text row.cells ++ codes "\n"))
+row_line row =
+    spaced (optional_text row.id) ++ (spaced (signed_decimal row.last) ++ (cells_text row.cells ++ codes "\n"))
 
 -- a line for each row
 abbrev pub lines : List Row → List ℕ

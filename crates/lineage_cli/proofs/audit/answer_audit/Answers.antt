@@ -14,4 +14,7 @@ returns-in_err-line g c =
 
 pub returns : goal.returns
 returns g c =
-    subst (λ (answer : Result (List ℕ) Ending). IsOutcome answer (record { bytes = g.W.Sink.written c.args.out.now; faults = g.W.Sink.faults c.args.out.now }) (record { bytes = g.W.Sink.written c.print.new.out; faults = g.W.Sink.faults c.print.new.out }) c.print.result) (sym (answer_within Audit c.args.bytes.now c.requires ∙ (c.in_ok-line.ensures ∙ ap (λ (l : List ℕ). Ok l) (sym c.as_str.ensures.value)))) c.print.ensures
+    subst (λ (answer : Result (List ℕ) Ending). IsOutcome answer (record { bytes = g.W.Sink.written c.args.out.now; faults = g.W.Sink.faults c.args.out.now })
+    (record { bytes = g.W.Sink.written c.print.new.out; faults = g.W.Sink.faults c.print.new.out }) c.print.result)
+    (sym (answer_within Audit c.args.bytes.now c.requires ∙ (c.in_ok-line.ensures ∙ ap (λ (l : List ℕ). Ok l) (sym c.as_str.ensures.value))))
+    c.print.ensures

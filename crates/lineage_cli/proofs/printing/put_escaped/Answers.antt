@@ -6,7 +6,7 @@ use Rattle.std.proofs.lemmas.Result.{err_from_is_err_and}
 use Rattle.lineage_cli.specs.Output.{AppendsFront, shown}
 use Rattle.pieces.specs.Literal.{escape}
 use Rattle.lineage_cli.proofs.OutputLemmas.{appends_then, begins_then, begins_more}
-use Rattle.pieces.proofs.LiteralRuns.{run_begins, run_goes_on, run_ends}
+use Rattle.pieces.specs.LiteralLaws.{run_begins, run_goes_on, run_ends}
 use Rattle.lineage_cli.proofs.TextLemmas.{run_part}
 use Rattle.lineage_cli.proofs.printing.put_escaped.Goals as goal
 use Rattle.lineage_cli.proofs.printing.put_escaped.Goals.{in-Some+in_ok-put_both, in_default}

@@ -3,7 +3,7 @@ use Rattle.std.specs.List.{flat_map}
 use Rattle.std.specs.Io.KnownBytes.{Appends}
 use Rattle.lineage_cli.specs.Output.{shown}
 use Rattle.pieces.specs.Literal.{escape}
-use Rattle.pieces.proofs.LiteralRuns.{IsRun}
+use Rattle.pieces.specs.LiteralLaws.{IsRun}
 use Rattle.std.proofs.Common.{◌≤◌}
 use Rattle.lineage_cli.proofs.printing.put_escaped.Given as goal
 

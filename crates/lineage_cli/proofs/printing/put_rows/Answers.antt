@@ -6,11 +6,15 @@ use Rattle.lineage_cli.proofs.printing.put_rows.Goals as goal
 
 pub loop-out-preserved : goal.loop-out-preserved
 loop-out-preserved g c = record {
-  begun = begun_more _ _ _ (lines c.loop-out.rows.left) (row_line c.advance.new.self.row) (lines c.advance.new.self.left) (lines c.args.rows.now.left) (lines_next c.loop-out.rows.left c.advance.new.self.row c.advance.new.self.left c.loop-out-test.ensures.shown) c.loop-out.invariant.begun c.in_ok-put_row.ensures.text;
+  begun = begun_more _ _ _ (lines c.loop-out.rows.left) (row_line c.advance.new.self.row) (lines c.advance.new.self.left) (lines c.args.rows.now.left)
+      (lines_next c.loop-out.rows.left c.advance.new.self.row c.advance.new.self.left c.loop-out-test.ensures.shown) c.loop-out.invariant.begun
+      c.in_ok-put_row.ensures.text;
   later = omega (arith, c.loop-out.invariant.later, c.put_row.ensures.cause.later);
 }
 
 pub returns-in_err-put_row-clause-text : goal.returns-in_err-put_row-clause-text
 returns-in_err-put_row-clause-text g c =
     let p = err_from_is_err_and c.from_residual.result c.from_residual.ensures.1 in
-    rw p.1 (begun_stops _ _ _ (lines c.loop-out.rows.left) (row_line c.advance.new.self.row) (lines c.advance.new.self.left) (lines c.args.rows.now.left) (lines_next c.loop-out.rows.left c.advance.new.self.row c.advance.new.self.left c.loop-out-test.ensures.shown) c.loop-out.invariant.begun c.in_err-put_row.ensures.text)
+    rw p.1 (begun_stops _ _ _ (lines c.loop-out.rows.left) (row_line c.advance.new.self.row) (lines c.advance.new.self.left) (lines c.args.rows.now.left)
+    (lines_next c.loop-out.rows.left c.advance.new.self.row c.advance.new.self.left c.loop-out-test.ensures.shown) c.loop-out.invariant.begun
+    c.in_err-put_row.ensures.text)
