@@ -28,11 +28,11 @@ use Rattle.serde_json.specs.Data.{
 abbrev pub Part : Type 0
 Part = ℕ × (List ℕ × (ℕ × (ℤ × Float)))
 
--- a part that has neither
+-- a part without a text and without a number
 abbrev pub mark : ℕ → Part
 mark tag = (tag, ([], (0, (pos 0, nan))))
 
--- a number
+-- the part of a number
 abbrev pub number_part : Num → Part
 number_part (unsigned n) = (3, ([], (n, (pos 0, nan))))
 number_part (negative z) = (4, ([], (0, (z, nan))))
@@ -91,7 +91,7 @@ abbrev pub under_top : Stack → Stack
 under_top [] = []
 under_top (piece ∷ stack) = stack
 
--- the stack with what the part makes of its top
+-- the stack after the part
 abbrev pub built : Part → Stack → Stack
 built p stack =
     cond (p.0 == 0) (of_data null ∷ stack)
@@ -106,9 +106,10 @@ built p stack =
     (cond (p.0 == 9) (of_items no_items ∷ stack)
     (cond (p.0 == 10) (of_items (item (top_data (under_top stack)) (top_items stack)) ∷ under_top (under_top stack))
     (cond (p.0 == 11) (of_members no_members ∷ stack)
-    (of_members (member p.1.0 (top_data (under_top stack)) (top_members stack)) ∷ under_top (under_top stack)))))))))))))
+    (of_members (member p.1.0 (top_data (under_top stack)) (top_members stack))
+    ∷ under_top (under_top stack)))))))))))))
 
--- the stack that the parts make
+-- the stack after all parts
 abbrev pub rebuilt : List Part → Stack → Stack
 rebuilt [] stack = stack
 rebuilt (part ∷ parts) stack = rebuilt parts (built part stack)

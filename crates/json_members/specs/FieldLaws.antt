@@ -1,4 +1,4 @@
--- What is found of members with fields, and what is left without those.
+-- Members with fields: what a look-up finds, and what is left without the fields' names.
 use Rattle.std.proofs.Common.{
   ◌≡◌,
   ℕ,
@@ -66,13 +66,13 @@ all_same Less found = refl
 all_same Equal found = refl
 all_same Greater found = refl
 
--- what is found with a field
+-- a look-up in members with a field
 pub get_field : (name other : List ℕ) (value : Option Data) (ms : Members)
     → get_member name (with_field other value ms) ≡ field_or name other value (get_member name ms)
 get_field name other None ms = all_same (slice_cmp nat_cmp name other) (get_member name ms)
 get_field name other (Some d) ms = get_put name other d ms (slice_cmp nat_cmp name other) refl
 
--- what is found with fields
+-- a look-up in members with fields
 pub get_fields : (name : List ℕ) (fields : List Field) (ms : Members)
     → get_member name (with_fields fields ms) ≡ found_in name fields (get_member name ms)
 get_fields name [] ms = refl
@@ -93,7 +93,7 @@ put_step names key other d e ms Equal among is rec =
 put_step names key other d e ms Greater among is rec =
     ap (λ left. if is_among other names then left else member other e left) rec
 
--- what was put at a name that is left out
+-- a member that is put at a name and then left out changes nothing
 pub without_put : (names : List (List ℕ)) (key : List ℕ) (d : Data) (ms : Members) → is_among key names ≡ true
     → without names (put key d ms) ≡ without names ms
 without_put names key d no_members among = rw among refl
@@ -110,7 +110,7 @@ without_field : (names : List (List ℕ)) (key : List ℕ) (value : Option Data)
 without_field names key None ms among = refl
 without_field names key (Some d) ms among = without_put names key d ms among
 
--- fields that are all left out
+-- fields that are all left out change nothing
 pub without_fields : (names : List (List ℕ)) (fields : List Field) (ms : Members) → are_among fields names ≡ true
     → without names (with_fields fields ms) ≡ without names ms
 without_fields names [] ms among = refl

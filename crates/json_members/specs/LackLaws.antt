@@ -31,7 +31,7 @@ none : (b c : Bool) → (not b && c) ≡ true → (b ≡ false) × (c ≡ true)
 none true c is = absurd cc
 none false c is = (refl, is)
 
--- such members are what is left without those names
+-- if members lack the names, leaving these out changes nothing
 pub without_lacking : (names : List (List ℕ)) (ms : Members) → lacks names ms ≡ true → without names ms ≡ ms
 without_lacking names no_members h = refl
 without_lacking names (member key d ms) h =
@@ -45,14 +45,14 @@ lacks_step names key d left true c is rest other = rest
 lacks_step names key d left false c is rest other =
     ap (λ (b : Bool). not b && lacks names left) (is ∙ other refl) ∙ rest
 
--- what is left without names lacks them
+-- members without the names lack them
 pub lacks_without : (names : List (List ℕ)) (ms : Members) → lacks names (without names ms) ≡ true
 lacks_without names no_members = refl
 lacks_without names (member key d ms) =
     lacks_step names key d (without names ms) (is_among key names) (is_among key names) refl (lacks_without names ms)
     (λ h. h)
 
--- and so it does with others left out
+-- members that lack the names still do if others are left out
 pub lacks_left : (names others : List (List ℕ)) (ms : Members) → lacks names ms ≡ true
     → lacks names (without others ms) ≡ true
 lacks_left names others no_members h = refl
@@ -73,7 +73,7 @@ put_step names key other d e ms Equal here there rest rec = ap (λ (b : Bool). n
 put_step names key other d e ms Greater here there rest rec =
     ap (λ (b : Bool). not b && lacks names (put key d ms)) there ∙ rec
 
--- and with one of another name put in
+-- members that lack the names still do if a member of another name is put in
 pub lacks_put : (names : List (List ℕ)) (key : List ℕ) (d : Data) (ms : Members) → is_among key names ≡ false
     → lacks names ms ≡ true → lacks names (put key d ms) ≡ true
 lacks_put names key d no_members other h = ap (λ (b : Bool). not b && true) other
@@ -81,7 +81,7 @@ lacks_put names key d (member name e ms) other h =
     let p = none (is_among name names) (lacks names ms) h in
     put_step names key name d e ms (slice_cmp nat_cmp key name) other p.0 p.1 (lacks_put names key d ms other p.1)
 
--- a name that is lacked isn't found
+-- a look-up of a name that is lacked finds nothing
 pub get_lacked : (name : List ℕ) (names : List (List ℕ)) (ms : Members) → is_among name names ≡ true
     → lacks names ms ≡ true → get_member name ms ≡ None
 get_lacked name names ms among h =

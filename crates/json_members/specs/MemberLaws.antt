@@ -1,4 +1,4 @@
--- What is found of members, with some left out.
+-- Members without some names: what is left, and what a look-up finds.
 use Rattle.std.proofs.Common.{
   ◌≡◌,
   ℕ,
@@ -40,14 +40,14 @@ ordered Less a b = refl
 ordered Equal a b = refl
 ordered Greater a b = refl
 
--- what is found at a name is the first member's value, if that is its name
+-- a look-up finds the first member's value if the first member has the name
 pub get_first : (name key : List ℕ) (d : Data) (ms : Members)
     → get_member name (member key d ms) ≡ cond (bytes_eq name key) (Some d) (get_member name ms)
 get_first name key d ms =
     ordered (slice_cmp nat_cmp name key) (get_member name ms) (Some d)
     ∙ ap (λ b. cond b (Some d) (get_member name ms)) (is_eq-slice_cmp name key)
 
--- the names are one, where they compare so
+-- two names are one if all their bytes are equal
 pub one_name : (a b : List ℕ) → bytes_eq a b ≡ true → a ≡ b
 one_name a b is = (bytes_eq-Decides a b).0 is
 
@@ -59,7 +59,7 @@ absent_step : (name key : List ℕ) (d : Data) (ms : Members) (b : Bool)
 absent_step name key d ms true rec is = absurd cc
 absent_step name key d ms false rec is = ap (member key d) (rec is)
 
--- a name that no member has leaves nothing out
+-- leaving out a name that no member has changes nothing
 pub without_absent : (name : List ℕ) (ms : Members) → get_member name ms ≡ None → without (name ∷ []) ms ≡ ms
 without_absent name no_members none = refl
 without_absent name (member key d ms) none =
@@ -72,7 +72,7 @@ more_step : (name key : List ℕ) (names : List (List ℕ)) (d : Data) (rest lef
 more_step name key names d rest left true rec = rec
 more_step name key names d rest left false rec = ap (λ kept. if is_among key names then kept else member key d kept) rec
 
--- names that are left out one after the other
+-- names may be left out one after the other
 pub without_more : (name : List ℕ) (names : List (List ℕ)) (ms : Members)
     → without names (without (name ∷ []) ms) ≡ without (name ∷ names) ms
 without_more name names no_members = refl
@@ -105,7 +105,7 @@ left_out_step name key names d left false true among is named rec =
 left_out_step name key names d left false false among is named rec =
     get_first name key d left ∙ ap (λ b. cond b (Some d) (get_member name left)) named ∙ rec
 
--- a name that is left out isn't found
+-- a look-up of a name that is left out finds nothing
 pub get_left_out : (name : List ℕ) (names : List (List ℕ)) (ms : Members) → is_among name names ≡ true
     → get_member name (without names ms) ≡ None
 get_left_out name names no_members among = refl
@@ -124,7 +124,7 @@ kept_step name key names d left ms false same among is named rec =
     get_first name key d left ∙ ap (λ b. cond b (Some d) (get_member name left)) named
     ∙ ap (λ v. cond same (Some d) v) rec
 
--- the others keep their values
+-- a look-up of another name finds what it found before
 pub get_kept : (name : List ℕ) (names : List (List ℕ)) (ms : Members) → is_among name names ≡ false
     → get_member name (without names ms) ≡ get_member name ms
 get_kept name names no_members among = refl
@@ -142,7 +142,7 @@ known_step name key names d left more true named among rec =
 known_step name key names d left more false named among rec =
     ap (λ (kept : Members). if is_among key names then kept else member key d kept) rec
 
--- a name that is left out with others, and alone before that
+-- a name that is left out twice may be left out once
 pub without_known : (name : List ℕ) (names : List (List ℕ)) (ms : Members) → is_among name names ≡ true
     → without (name ∷ names) ms ≡ without names ms
 without_known name names no_members among = refl

@@ -1,4 +1,4 @@
--- Values without floats that nest within a room, their members, and members with or without others.
+-- Values without floats that nest at most as deep as a bound: what keeps them so.
 use Rattle.std.proofs.Common.{
   ◌≡◌,
   ℕ,
@@ -58,7 +58,7 @@ without_step : (room : ℕ) (key : List ℕ) (d : Data) (left : Members) (b : Bo
 without_step room key d left true here rest = rest
 without_step room key d left false here rest = plain_more room key d left here rest
 
--- with some left out
+-- members with some left out
 pub plain_without : (room : ℕ) (names : List (List ℕ)) (ms : Members) → ArePlain room ms
     → ArePlain room (without names ms)
 plain_without room names no_members all = all
@@ -75,7 +75,7 @@ put_step room key other d e ms Less here there rest rec =
 put_step room key other d e ms Equal here there rest rec = plain_more room other d ms here rest
 put_step room key other d e ms Greater here there rest rec = plain_more room other e (put key d ms) there rec
 
--- with one put in
+-- members with one put in
 pub plain_put : (room : ℕ) (key : List ℕ) (d : Data) (ms : Members) → IsPlain room d → ArePlain room ms
     → ArePlain room (put key d ms)
 plain_put room key d no_members here all = plain_more room key d no_members here all
@@ -100,7 +100,7 @@ found_step : (room : ℕ) (name : List ℕ) (e d : Data) (ms : Members) (b : Boo
 found_step room name e d ms true here rec is = let same : e ≡ d = cc in subst (IsPlain room) same here
 found_step room name e d ms false here rec is = rec is
 
--- what is found
+-- the value that a look-up finds
 pub plain_found : (room : ℕ) (name : List ℕ) (ms : Members) (d : Data) → ArePlain room ms
     → get_member name ms ≡ Some d → IsPlain room d
 plain_found room name no_members d all is = absurd cc

@@ -1,4 +1,4 @@
--- A table's first fault hangs on what is found at its names alone.
+-- The first fault of a table, and the relation that says that there is none.
 use Rattle.std.proofs.Common.{
   ◌≡◌,
   ℕ,
@@ -50,7 +50,7 @@ use Rattle.json_members.specs.Rows.{
 }
 use Rattle.json_members.specs.FieldLaws.{get_fields}
 
--- a table over two objects in which the same is found
+-- the first fault depends only on what look-ups find
 pub checked_same : (f g : List ℕ → Option Data) (rows : List Row) → ((name : List ℕ) → f name ≡ g name)
     → checked_by f rows ≡ checked_by g rows
 checked_same f g [] same = refl
@@ -58,12 +58,12 @@ checked_same f g (row ∷ rows) same =
     ap₂ (λ (here : Result (Unit {0}) Fault) (rest : Result (Unit {0}) Fault). here >>= (λ _. rest))
     (ap (tested row) (same row.name)) (checked_same f g rows same)
 
--- a table over an object with fields
+-- the first fault in an object with fields
 pub checked_fields : (rows : List Row) (fields : List Field) (ms : Members)
     → checked rows (with_fields fields ms) ≡ checked_by (λ name. found_in name fields (get_member name ms)) rows
 checked_fields rows fields ms = checked_same _ _ rows (λ name. get_fields name fields ms)
 
--- the first row of a right table, and the others
+-- if two steps have no fault together, neither has one
 pub first_right : (here rest : Result (Unit {0}) Fault) → (here >>= (λ _. rest)) ≡ Ok tt
     → (here ≡ Ok tt) × (rest ≡ Ok tt)
 first_right (Ok tt) rest is = (refl, is)
@@ -75,7 +75,7 @@ no_fault found [] h = refl
 no_fault found (row ∷ rows) h =
     ap (λ (r : Result (Unit {0}) Fault). r >>= (λ _. checked_by found rows)) h.0 ∙ no_fault found rows h.1
 
--- a table without a fault has right rows alone
+-- all rows of a table without a fault are right
 pub all_right : (found : List ℕ → Option Data) (rows : List Row) → checked_by found rows ≡ Ok tt → AreRight found rows
 all_right found [] is = tt
 all_right found (row ∷ rows) is =
@@ -89,14 +89,14 @@ form_step name b true is none = refl
 form_step name true false is none = absurd cc
 form_step name false false is none = absurd cc
 
--- what a needed member's row says
+-- if the row of a needed member is right, there is a value, and it has the form
 pub needed_right : (name : List ℕ) (form : Form) (since : Version) (keep : Keep) (found : Option Data)
     → tested (record { name = name; need = Needed; form = form; since = since; keep = keep }) found ≡ Ok tt
     → (value : Data) × (found ≡ Some value) × (has_form form value ≡ true)
 needed_right name form since keep None is = absurd cc
 needed_right name form since keep (Some value) is = (value, refl, form_step name false (has_form form value) is refl)
 
--- a value with its form passes
+-- a row is right if its value has the form
 pub tested_right : (row : Row) (value : Data) → has_form row.form value ≡ true → tested row (Some value) ≡ Ok tt
 tested_right row value right = by_null (takes_null row.need value)
   where
@@ -112,7 +112,7 @@ named_step found row here true later first rest is =
     let same : here ≡ row = cc in subst (λ (r : Row). tested r (found r.name) ≡ Ok tt) same first
 named_step found row here false later first rest is = rest is
 
--- the row of a name is right in a table without a fault
+-- if all rows are right, the row of a name is
 pub right_named : (found : List ℕ → Option Data) (rows : List Row) (name : List ℕ) (row : Row)
     → row_named name rows ≡ Some row → AreRight found rows → tested row (found row.name) ≡ Ok tt
 right_named found [] name row is h = absurd cc
@@ -122,7 +122,7 @@ right_named found (here ∷ rows) name row is h =
 
 -- ---- lists of objects
 
--- an object in which no row has a fault
+-- an object whose rows are all right has no fault
 right_object : (list : List ℕ) (rows : List Row) (members : Option Members) → HasRight rows members
     → object_checked list rows members ≡ Ok tt
 right_object list rows None h = absurd h
@@ -133,7 +133,7 @@ object_right : (list : List ℕ) (rows : List Row) (members : Option Members) �
 object_right list rows None is = absurd cc
 object_right list rows (Some members) is = all_right (λ name. get_member name members) rows is
 
--- a list of such objects has no fault
+-- a list of objects whose rows are all right has no fault
 pub each_without_fault : (list : List ℕ) (rows : List Row) (values : Items) → EachIsRight rows values
     → each_checked list rows values ≡ Ok tt
 each_without_fault list rows no_items h = refl
@@ -142,7 +142,7 @@ each_without_fault list rows (item value values) h =
     (right_object list rows (as_object value) h.0)
     ∙ each_without_fault list rows values h.1
 
--- a list without a fault is a list of such objects
+-- a list without a fault is one of objects whose rows are all right
 pub each_all_right : (list : List ℕ) (rows : List Row) (values : Items) → each_checked list rows values ≡ Ok tt
     → EachIsRight rows values
 each_all_right list rows no_items is = tt
