@@ -12,7 +12,7 @@ use Rattle.avro_datum.specs.Reading.{datum_at}
 use Rattle.avro_datum.proofs.Parts.{Stand, Took}
 use Rattle.avro_datum.proofs.Agreeing.{Passes}
 use Rattle.avro_datum.proofs.SpelledDatum.{agrees_datum}
-use Rattle.avro_container.proofs.Steps.{bind_then, map_ok, test_failed, ok_is}
+use Rattle.words.specs.Steps.{bind_then, map_ok, test_failed, ok_is}
 use Rattle.row_file.specs.Refusal.{datum_refusal}
 use Rattle.row_file.specs.Field.{fields_of}
 use Rattle.row_file.specs.Row.{is_null, values_of, stored_row, check_nulls, checked_row}
