@@ -1,5 +1,6 @@
 -- Reading the blocks of the header's map one after the other, as a loop does.
-use Rattle.std.proofs.Common.{◌≡◌, ℕ, suc, ◌+◌, ◌-◌, ◌<◌, ◌≤◌, true, false, List, Result, Ok, Err, refl, sym, ◌∙◌, arith}
+use Rattle.std.proofs.Common.{◌≡◌, ℕ, suc, ◌+◌, ◌-◌, ◌<◌, ◌≤◌, true, false, List, Result, Ok, Err, refl, sym, ◌∙◌}
+use Rattle.std.proofs.Common.{arith}
 use Rattle.std.specs.Prelude.{ℤ, pos, negsuc}
 use Rattle.std.specs.Int.{w64}
 use Rattle.std.proofs.Common.{of_z, SFits, eq-eqb}
@@ -22,19 +23,23 @@ unfolding map_at
 map_fails tries i pairs input at e total lt count so_far = sym so_far ∙ rw (one_left tries i lt, count) refl
 
 -- the count is 0
-pub map_ends : (tries i : ℕ) (pairs : List Pair) (input : List ℕ) (at : ℕ) (count : ℤ) (start : ℕ) (total : Answer) → i < tries → map_number_at input at ≡ Ok (count, start) → is_natural count 0 ≡ true
+pub map_ends : (tries i : ℕ) (pairs : List Pair) (input : List ℕ) (at : ℕ) (count : ℤ) (start : ℕ) (total : Answer)
+    → i < tries → map_number_at input at ≡ Ok (count, start) → is_natural count 0 ≡ true
     → map_at (tries - i) pairs input at ≡ total → total ≡ Ok (pairs, start)
 unfolding map_at
 map_ends tries i pairs input at count start total lt read none so_far = sym so_far ∙ rw (one_left tries i lt, read, none) refl
 
 -- the block behind the count is refused
-pub block_fails : (tries i : ℕ) (pairs : List Pair) (input : List ℕ) (at : ℕ) (count : ℤ) (start : ℕ) (e : ContainerRefusal) (total : Answer) → i < tries → map_number_at input at ≡ Ok (count, start) → is_natural count 0 ≡ false
+pub block_fails : (tries i : ℕ) (pairs : List Pair) (input : List ℕ) (at : ℕ) (count : ℤ) (start : ℕ)
+    (e : ContainerRefusal) (total : Answer) → i < tries → map_number_at input at ≡ Ok (count, start)
+    → is_natural count 0 ≡ false
     → map_block_at at pairs input (count, start) ≡ Err e → map_at (tries - i) pairs input at ≡ total → total ≡ Err e
 unfolding map_at
 block_fails tries i pairs input at count start e total lt read some block so_far = sym so_far ∙ rw (one_left tries i lt, read, some, block) refl
 
 -- the block is read, and the map goes on
-pub map_goes_on : (tries i : ℕ) (pairs more : List Pair) (input : List ℕ) (at : ℕ) (count : ℤ) (start after : ℕ) (total : Answer) → i < tries → map_number_at input at ≡ Ok (count, start) → is_natural count 0 ≡ false
+pub map_goes_on : (tries i : ℕ) (pairs more : List Pair) (input : List ℕ) (at : ℕ) (count : ℤ) (start after : ℕ)
+    (total : Answer) → i < tries → map_number_at input at ≡ Ok (count, start) → is_natural count 0 ≡ false
     → map_block_at at pairs input (count, start) ≡ Ok (more, after) → map_at (tries - i) pairs input at ≡ total → map_at (tries - (i + 1)) more input after ≡ total
 unfolding map_at
 map_goes_on tries i pairs more input at count start after total lt read some block so_far =
@@ -42,7 +47,8 @@ map_goes_on tries i pairs more input at count start after total lt read some blo
     sym one ∙ so_far
 
 -- no more blocks are tried
-pub map_stops : (tries i : ℕ) (pairs : List Pair) (input : List ℕ) (at : ℕ) (total : Answer) → tries ≤ i → map_at (tries - i) pairs input at ≡ total → total ≡ Ok (pairs, at)
+pub map_stops : (tries i : ℕ) (pairs : List Pair) (input : List ℕ) (at : ℕ) (total : Answer) → tries ≤ i
+    → map_at (tries - i) pairs input at ≡ total → total ≡ Ok (pairs, at)
 unfolding map_at
 map_stops tries i pairs input at total le so_far =
     let none : tries - i ≡ 0 = omega arith in

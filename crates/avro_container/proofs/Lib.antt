@@ -1,8 +1,6 @@
 pub mod PairsLemmas
 pub mod HeaderLemmas
 pub mod WalkLemmas
-pub mod Parts
-pub mod Steps
 pub mod Keys
 pub mod SpelledNumber
 pub mod SpelledItem
@@ -19,7 +17,7 @@ pub mod SpelledBlocks
 pub mod SpelledMagic
 pub mod SpelledHeader
 pub mod SpelledFile
-pub mod PutLemmas
+pub mod FewBlocks
 pub mod WrittenMap
 pub mod WrittenBlocks
 pub mod WrittenFile

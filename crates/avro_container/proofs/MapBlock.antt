@@ -1,11 +1,12 @@
 -- What is said of a block of the header's map, by either way to tell its count.
-use Rattle.std.proofs.Common.{◌≡◌, ℕ, ◌+◌, ◌<◌, ◌≤◌, ℤ, pos, negsuc, true, false, List, ◌++◌, ◌⊎◌, length, Ok, inl, inr, ap, arith}
+use Rattle.std.proofs.Common.{◌≡◌, ℕ, ◌+◌, ◌<◌, ◌≤◌, ℤ, pos, negsuc, true, false, List, ◌++◌, ◌⊎◌, length, Ok, inl}
+use Rattle.std.proofs.Common.{inr, ap, arith}
 use Rattle.std.proofs.lemmas.Bool.{eqb-true}
 use Rattle.std.proofs.lemmas.List.{length-append}
 use Rattle.avro_wire.specs.Blocks.{IsCounted, IsSized}
 use Rattle.avro_container.specs.Header.{Pair, most_pairs, is_natural, map_number_at, map_block_at}
 use Rattle.avro_container.specs.Format.{SpellsPair}
-use Rattle.avro_container.proofs.Parts.{Took}
+use Rattle.words.specs.Parts.{Took}
 use Rattle.avro_container.proofs.SpelledNumber.{number_some}
 use Rattle.avro_container.proofs.Keys.{IsSoFar}
 

@@ -5,11 +5,13 @@ use Rattle.std.proofs.lemmas.List.{at_drop_more}
 use Rattle.avro_container.specs.Header.{Pair, bound_to}
 
 -- the pair at the place has the key
-pub bound_to-found : (pairs : List Pair) (at : ℕ) (p : Pair) (key : List ℕ) → at < length pairs → p ≡ get_or pairs at p → bytes_eq p.0 key ≡ true → bound_to (drop at pairs) key ≡ Some p.1
+pub bound_to-found : (pairs : List Pair) (at : ℕ) (p : Pair) (key : List ℕ) → at < length pairs
+    → p ≡ get_or pairs at p → bytes_eq p.0 key ≡ true → bound_to (drop at pairs) key ≡ Some p.1
 bound_to-found pairs at p key inside here same =
     at_drop_more (λ (ps : List Pair). bound_to ps key) pairs at p inside ∙ rw (← here) (rw same refl)
 
 -- the pair at the place has another key
-pub bound_to-next : (pairs : List Pair) (at : ℕ) (p : Pair) (key : List ℕ) → at < length pairs → p ≡ get_or pairs at p → bytes_eq p.0 key ≡ false → bound_to (drop at pairs) key ≡ bound_to (drop (at + 1) pairs) key
+pub bound_to-next : (pairs : List Pair) (at : ℕ) (p : Pair) (key : List ℕ) → at < length pairs → p ≡ get_or pairs at p
+    → bytes_eq p.0 key ≡ false → bound_to (drop at pairs) key ≡ bound_to (drop (at + 1) pairs) key
 bound_to-next pairs at p key inside here other =
     at_drop_more (λ (ps : List Pair). bound_to ps key) pairs at p inside ∙ rw (← here) (rw other refl)

@@ -1,5 +1,6 @@
 -- A block of a file by the relation: what is read is spelled so, and what is spelled so is read.
-use Rattle.std.proofs.Common.{◌≡◌, ℕ, ◌+◌, ◌-◌, ◌<◌, pos, true, List, ◌++◌, length, drop, slice_range, Ok, refl, sym, ap, subst, ◌∙◌, append_assoc, arith}
+use Rattle.std.proofs.Common.{◌≡◌, ℕ, ◌+◌, ◌-◌, ◌<◌, pos, true, List, ◌++◌, length, drop, slice_range, Ok, refl, sym}
+use Rattle.std.proofs.Common.{ap, subst, ◌∙◌, append_assoc, arith}
 use Rattle.std.specs.Str.{bytes_eq}
 use Rattle.std.proofs.lemmas.List.{length-drop, length-append}
 use Rattle.std.proofs.lemmas.Slice.Eq.{bytes_eq-Decides}
@@ -11,10 +12,10 @@ use Rattle.avro_container.specs.declared.refusal.ContainerRefusal.TheVariants.{S
 use Rattle.avro_container.specs.Header.{part_at}
 use Rattle.avro_container.specs.Block.{count_at, frame_at, block_of}
 use Rattle.avro_container.specs.Format.{SpellsBlock}
-use Rattle.avro_container.proofs.Parts.{Took, drop_behind, range_is, took_then, took_as}
-use Rattle.avro_container.proofs.Steps.{bind_then, test_passed, ok_is}
+use Rattle.words.specs.Parts.{Took, behind_is, took_then, took_as}
+use Rattle.words.specs.Steps.{bind_then, test_passed, ok_is}
 use Rattle.avro_container.proofs.SpelledNumber.{number_some}
-use Rattle.avro_container.proofs.SpelledItem.{part_again}
+use Rattle.avro_container.proofs.SpelledItem.{slice_is, part_again}
 use Rattle.avro_container.proofs.SpelledCount.{count_took, count_again, part_is}
 
 -- the bytes of a frame are those of its block
@@ -42,7 +43,9 @@ abbrev pub FrameTook : List ℕ → List ℕ → ℕ → Frame × ℕ → Type 0
 FrameTook sync input place taken = Took input place taken.1 (SpellsBlock sync (block_of input taken.0))
 
 -- of its parts that were read
-frame_of : (sync input : List ℕ) (place : ℕ) (count size : ℕ × ℕ) (end after : ℕ) → Took input place count.1 (λ bytes. SpellsNumber long bytes (pos count.0)) → Took input count.1 size.1 (λ bytes. SpellsNumber long bytes (pos size.0))
+frame_of : (sync input : List ℕ) (place : ℕ) (count size : ℕ × ℕ) (end after : ℕ)
+    → Took input place count.1 (λ bytes. SpellsNumber long bytes (pos count.0))
+    → Took input count.1 size.1 (λ bytes. SpellsNumber long bytes (pos size.0))
     → part_at size.0 input size.1 ≡ Ok end → part_at 16 input end ≡ Ok after → bytes_eq (slice_range input end after) sync ≡ true → FrameTook sync input place (record { count = count.0; start = size.1; end = end }, after)
 frame_of sync input place count size end after first second third fourth same =
     let marker = took_then input size.1 end after (part_is input size.1 end size.0 third) (part_is input end after 16 fourth) in
@@ -50,7 +53,8 @@ frame_of sync input place count size end after first second third fourth same =
     took_as input place after (λ bytes. frame_is sync (slice_range input size.1 end) (slice_range input end after) count.0 size.0 bytes same) whole
 
 -- what is read is spelled so
-pub frame_took : (sync : List ℕ) (block : ℕ) (input : List ℕ) (place : ℕ) (taken : Frame × ℕ) → frame_at sync block input place ≡ Ok taken → FrameTook sync input place taken
+pub frame_took : (sync : List ℕ) (block : ℕ) (input : List ℕ) (place : ℕ) (taken : Frame × ℕ)
+    → frame_at sync block input place ≡ Ok taken → FrameTook sync input place taken
 unfolding frame_at
 frame_took sync block input place taken read =
     bind_then (count_at block input place) _ taken read (λ count first others.
@@ -72,7 +76,9 @@ pub record FrameAgain (sync : List ℕ) (number : ℕ) (input : List ℕ) (place
   pub block_is : block_of input frame ≡ block
 
 -- what is spelled so is read, whatever follows
-pub frame_again : (sync : List ℕ) (number : ℕ) (input : List ℕ) (place : ℕ) (bytes rest : List ℕ) (block : Block) → length sync ≡ 16 → drop place input ≡ bytes ++ rest → SpellsBlock sync block bytes → FrameAgain sync number input place bytes block
+pub frame_again : (sync : List ℕ) (number : ℕ) (input : List ℕ) (place : ℕ) (bytes rest : List ℕ) (block : Block)
+    → length sync ≡ 16 → drop place input ≡ bytes ++ rest → SpellsBlock sync block bytes
+    → FrameAgain sync number input place bytes block
 unfolding frame_at
 frame_again sync number input place bytes rest block marker parts spelled =
     let objects = block.bytes in
@@ -80,18 +86,20 @@ frame_again sync number input place bytes rest block marker parts spelled =
     let whole : drop place input ≡ spelled.count ++ (spelled.size ++ (objects ++ (sync ++ rest))) = parts ∙ ap (λ (x : List ℕ). x ++ rest) spelled.whole ∙ regrouped in
     let count = count_again number input place spelled.count (spelled.size ++ (objects ++ (sync ++ rest))) spelled.many whole spelled.counts in
     let at = place + length spelled.count in
-    let behind = drop_behind input place spelled.count (spelled.size ++ (objects ++ (sync ++ rest))) whole in
+    let behind = behind_is input place spelled.count (spelled.size ++ (objects ++ (sync ++ rest))) whole in
     let size = count_again number input at spelled.size (objects ++ (sync ++ rest)) (length objects) behind spelled.sizes in
     let start = at + length spelled.size in
-    let there = drop_behind input at spelled.size (objects ++ (sync ++ rest)) behind in
+    let there = behind_is input at spelled.size (objects ++ (sync ++ rest)) behind in
     let lengths : length input - start ≡ length objects + (16 + length rest) = omega (arith, length-drop start input, ap length there, length-append objects (sync ++ rest), length-append sync rest) in
     let end = part_again (length objects) input start (omega arith) in
-    let last = drop_behind input start objects (sync ++ rest) there in
+    let last = behind_is input start objects (sync ++ rest) there in
     let after = part_again 16 input (start + length objects) (omega arith) in
-    let marker_is : slice_range input (start + length objects) (start + length objects + 16) ≡ sync = ap (λ (n : ℕ). slice_range input (start + length objects) (start + length objects + n)) (sym marker) ∙ range_is input (start + length objects) sync rest last in
-    let same : bytes_eq (slice_range input (start + length objects) (start + length objects + 16)) sync ≡ true = (bytes_eq-Decides _ _).1 marker_is in
+    let mark = start + length objects in
+    let marker_is : slice_range input mark (mark + 16) ≡ sync =
+    ap (λ (n : ℕ). slice_range input mark (mark + n)) (sym marker) ∙ slice_is input mark sync rest last in
+    let same : bytes_eq (slice_range input mark (mark + 16)) sync ≡ true = (bytes_eq-Decides _ _).1 marker_is in
     let ends : start + length objects + 16 ≡ place + length bytes = omega (arith, ap length spelled.whole, length-append spelled.count (spelled.size ++ (objects ++ sync)), length-append spelled.size (objects ++ sync), length-append objects sync) in
-    let objects_are : slice_range input start (start + length objects) ≡ objects = range_is input start objects (sync ++ rest) there in
+    let objects_are : slice_range input start (start + length objects) ≡ objects = slice_is input start objects (sync ++ rest) there in
     record {
       frame = record { count = spelled.many; start = start; end = start + length objects };
       read = rw (count, size, end, after, same, ends) refl;

@@ -1,12 +1,13 @@
 -- The blocks of a file by the relation: what is read is spelled so, and what is spelled so is read.
-use Rattle.std.proofs.Common.{◌≡◌, ℕ, zero, suc, ◌+◌, ◌-◌, ◌<◌, ◌≤◌, List, [], ◌∷◌, ◌++◌, length, drop, Ok, nat_le, inl, inr, refl, ap, subst, ◌∙◌, arith}
+use Rattle.std.proofs.Common.{◌≡◌, ℕ, zero, suc, ◌+◌, ◌-◌, ◌<◌, ◌≤◌, List, [], ◌∷◌, ◌++◌, length, drop, Ok, nat_le}
+use Rattle.std.proofs.Common.{inl, inr, refl, ap, subst, ◌∙◌, arith}
 use Rattle.std.proofs.lemmas.Bool.{leb-true, lt-leb}
 use Rattle.std.proofs.lemmas.List.{length-drop, length-append, drop_all}
 use Rattle.avro_container.specs.declared.container.Block.{Block}
 use Rattle.avro_container.specs.Block.{frame_at, block_of, blocks_at}
 use Rattle.avro_container.specs.Format.{SpellsBlocks}
-use Rattle.avro_container.proofs.Parts.{drop_behind, took_moves}
-use Rattle.avro_container.proofs.Steps.{bind_then, cond_is, ok_is}
+use Rattle.words.specs.Parts.{behind_is, took_moves}
+use Rattle.words.specs.Steps.{bind_then, cond_is, ok_is}
 use Rattle.avro_container.proofs.WalkLemmas.{ends_here}
 use Rattle.avro_container.proofs.SpelledBlock.{frame_took, block_some, frame_again}
 
@@ -15,7 +16,9 @@ blocks_ended : (sync input : List ℕ) (place : ℕ) (blocks : List Block) → l
 blocks_ended sync input place blocks ended none = subst (λ (x : List Block). SpellsBlocks sync x (drop place input)) none (drop_all place input ended)
 
 -- what is read is spelled so, up to the end
-pub blocks_took : (tries : ℕ) (sync : List ℕ) (number : ℕ) (input : List ℕ) (place : ℕ) (blocks : List Block) → blocks_at tries sync number input place ≡ Ok blocks → length input - place ≤ tries → SpellsBlocks sync blocks (drop place input)
+pub blocks_took : (tries : ℕ) (sync : List ℕ) (number : ℕ) (input : List ℕ) (place : ℕ) (blocks : List Block)
+    → blocks_at tries sync number input place ≡ Ok blocks → length input - place ≤ tries
+    → SpellsBlocks sync blocks (drop place input)
 unfolding blocks_at
 blocks_took zero sync number input place blocks read enough = blocks_ended sync input place blocks (omega arith) (ok_is [] blocks read)
 blocks_took (suc tries) sync number input place blocks read enough =
@@ -27,13 +30,16 @@ blocks_took (suc tries) sync number input place blocks read enough =
           let first = frame_took sync number input place frame frame_read in
           let within = took_moves input place frame.1 (block_some sync (block_of input frame.0)) first in
           let spelled = blocks_took tries sync (number + 1) input frame.1 others others_read (omega arith) in
-          let left : drop frame.1 input ≡ first.rest = ap (λ (n : ℕ). drop n input) first.ends ∙ drop_behind input place first.bytes first.rest first.parts in
+          let left : drop frame.1 input ≡ first.stand.rest =
+          ap (λ (n : ℕ). drop n input) first.stand.ends ∙ behind_is input place first.bytes first.stand.rest first.stand.parts in
           subst (λ (x : List Block). SpellsBlocks sync x (drop place input)) (ok_is (block_of input frame.0 ∷ others) blocks made)
-          (record { front = first.bytes; rest = first.rest; parts = first.parts; first = first.such; second = rw left at spelled })))
+          (record { front = first.bytes; rest = first.stand.rest; parts = first.stand.parts; first = first.such; second = rw left at spelled })))
     ]
 
 -- what is spelled so up to the end is read
-pub blocks_again : (blocks : List Block) (tries : ℕ) (sync : List ℕ) (number : ℕ) (input : List ℕ) (place : ℕ) (bytes : List ℕ) → length sync ≡ 16 → drop place input ≡ bytes → SpellsBlocks sync blocks bytes → length bytes ≤ tries
+pub blocks_again : (blocks : List Block) (tries : ℕ) (sync : List ℕ) (number : ℕ) (input : List ℕ) (place : ℕ)
+    (bytes : List ℕ) → length sync ≡ 16 → drop place input ≡ bytes → SpellsBlocks sync blocks bytes
+    → length bytes ≤ tries
     → blocks_at tries sync number input place ≡ Ok blocks
 unfolding blocks_at
 blocks_again [] tries sync number input place bytes marker parts spelled enough =
@@ -46,6 +52,6 @@ blocks_again (block ∷ blocks) (suc tries) sync number input place bytes marker
     let counts : length bytes ≡ length spelled.front + length spelled.rest = ap length spelled.parts ∙ length-append spelled.front spelled.rest in
     let inside : place < length input = omega (arith, length-drop place input, ap length parts) in
     let first = frame_again sync number input place spelled.front spelled.rest block marker whole spelled.first in
-    let behind = drop_behind input place spelled.front spelled.rest whole in
+    let behind = behind_is input place spelled.front spelled.rest whole in
     let others = blocks_again blocks tries sync (number + 1) input (place + length spelled.front) spelled.rest marker behind spelled.second (omega arith) in
     rw (lt-leb (length input) place inside, first.read, others, first.block_is) refl

@@ -1,14 +1,16 @@
 -- The header of a file by the relation: what is read is spelled so, and what is spelled so is read.
-use Rattle.std.proofs.Common.{◌≡◌, ℕ, ◌+◌, ◌≤◌, true, List, [], ◌++◌, length, drop, Option, Some, None, Ok, refl, sym, ap, subst, ◌∙◌, arith}
+use Rattle.std.proofs.Common.{◌≡◌, ℕ, ◌+◌, ◌≤◌, true, List, [], ◌++◌, length, drop, Option, Some, None, Ok, refl, sym}
+use Rattle.std.proofs.Common.{ap, subst, ◌∙◌, arith}
 use Rattle.std.specs.Prelude.{IfSome, codes}
 use Rattle.std.specs.Str.{bytes_eq}
 use Rattle.std.proofs.lemmas.List.{length-append}
 use Rattle.std.proofs.lemmas.Slice.Eq.{bytes_eq-Decides}
 use Rattle.avro_container.specs.declared.refusal.ContainerRefusal.TheVariants.{Header, Codec}
-use Rattle.avro_container.specs.Header.{Pair, has_key, bound_to, magic, schema_key, codec_key, magic_at, map_at, check_codec, checked, header_at}
+use Rattle.avro_container.specs.Header.{Pair, has_key, bound_to, magic, schema_key, codec_key, magic_at, map_at}
+use Rattle.avro_container.specs.Header.{check_codec, checked, header_at}
 use Rattle.avro_container.specs.Format.{SpellsMap, IsHeader}
-use Rattle.avro_container.proofs.Parts.{Took, drop_behind}
-use Rattle.avro_container.proofs.Steps.{bind_then, test_passed, ok_is}
+use Rattle.words.specs.Parts.{Took, behind_is}
+use Rattle.words.specs.Steps.{bind_then, test_passed, ok_is}
 use Rattle.avro_container.proofs.Keys.{IsSoFar, so_far_none}
 use Rattle.avro_container.proofs.SpelledMap.{MapTook, map_took, map_again}
 use Rattle.avro_container.proofs.SpelledMagic.{magic_took, magic_is, four_within, magic_again}
@@ -49,15 +51,18 @@ pub record HeaderTook (input : List ℕ) (taken : List Pair × ℕ) : Type 0 whe
   pub maps : SpellsMap taken.0 map
 
 -- of the first bytes and the map
-header_is : (input : List ℕ) (map : List Pair × ℕ) → Took input 0 4 (λ bytes. bytes ≡ magic) → MapTook [] input 4 map → has_key map.0 schema_key ≡ true → IfSome (bound_to map.0 codec_key) (λ name. name ≡ codes "null") → HeaderTook input map
+header_is : (input : List ℕ) (map : List Pair × ℕ) → Took input 0 4 (λ bytes. bytes ≡ magic) → MapTook [] input 4 map
+    → has_key map.0 schema_key ≡ true → IfSome (bound_to map.0 codec_key) (λ name. name ≡ codes "null")
+    → HeaderTook input map
 header_is input map first took schema codec =
-    let start : input ≡ magic ++ first.rest = first.parts ∙ ap (λ (x : List ℕ). x ++ first.rest) first.such in
-    let behind : first.rest ≡ took.took.bytes ++ took.took.rest = sym (drop_behind input 0 magic first.rest start) ∙ took.took.parts in
+    let start : input ≡ magic ++ first.stand.rest = first.stand.parts ∙ ap (λ (x : List ℕ). x ++ first.stand.rest) first.such in
+    let map_stand = took.took.stand in
+    let behind : first.stand.rest ≡ took.took.bytes ++ map_stand.rest = sym (behind_is input 0 magic first.stand.rest start) ∙ map_stand.parts in
     record {
       map = took.took.bytes;
-      rest = took.took.rest;
+      rest = map_stand.rest;
       whole = start ∙ ap (λ (x : List ℕ). magic ++ x) behind;
-      ends = took.took.ends;
+      ends = map_stand.ends;
       header = record { few = took.few; texts = took.kept.texts; distinct = took.kept.distinct; schema = schema; codec = codec };
       maps = record { blocks = took.blocks; together = sym took.grown; spelled = took.took.such };
     }
@@ -75,11 +80,12 @@ header_took input header read =
     subst (HeaderTook input) is.same (header_is input map first took is.schema is.codec)))
 
 -- what is spelled so is read, whatever follows
-pub header_again : (input : List ℕ) (pairs : List Pair) (map rest : List ℕ) → input ≡ magic ++ (map ++ rest) → IsHeader pairs → SpellsMap pairs map → header_at input ≡ Ok (pairs, 4 + length map)
+pub header_again : (input : List ℕ) (pairs : List Pair) (map rest : List ℕ) → input ≡ magic ++ (map ++ rest)
+    → IsHeader pairs → SpellsMap pairs map → header_at input ≡ Ok (pairs, 4 + length map)
 unfolding header_at checked
 header_again input pairs map rest whole header maps =
     let start = magic_again input (map ++ rest) whole in
-    let behind : drop 4 input ≡ map ++ rest = drop_behind input 0 magic (map ++ rest) whole in
+    let behind : drop 4 input ≡ map ++ rest = behind_is input 0 magic (map ++ rest) whole in
     let enough : length map ≤ length input = omega (arith, ap length whole, length-append magic (map ++ rest), length-append map rest) in
     let kept : IsSoFar pairs = record { texts = header.texts; distinct = header.distinct } in
     let read = map_again maps.blocks (length input) [] input 4 map rest behind maps.spelled enough (rw maps.together kept) (rw maps.together header.few) in

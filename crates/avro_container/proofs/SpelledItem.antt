@@ -1,5 +1,6 @@
 -- Bytes behind their length, and so many bytes, by the relation: what is read is spelled so, and what is spelled so is read.
-use Rattle.std.proofs.Common.{◌≡◌, ℕ, ◌+◌, ◌-◌, ◌≤◌, ℤ, pos, negsuc, List, ◌++◌, length, take, drop, slice_range, Ok, refl, sym, ap, subst, ◌∙◌, append_assoc, arith}
+use Rattle.std.proofs.Common.{◌≡◌, ℕ, ◌+◌, ◌-◌, ◌≤◌, ℤ, pos, negsuc, List, ◌++◌, length, take, drop, slice_range, Ok}
+use Rattle.std.proofs.Common.{refl, sym, ap, subst, ◌∙◌, append_assoc, arith}
 use Rattle.std.proofs.lemmas.Bool.{ltb-false, le-ltb}
 use Rattle.std.proofs.lemmas.List.{length-drop, length-append, length-take-le, take-append-drop}
 use Rattle.words.specs.Grammar.{Joined}
@@ -9,33 +10,38 @@ use Rattle.avro_wire.specs.Reading.{number_at, range_behind, bytes_at}
 use Rattle.avro_wire.specs.ReadingLaws.{bytes_again}
 use Rattle.avro_container.specs.Refusal.{header_refusal}
 use Rattle.avro_container.specs.Header.{item_at, part_at}
-use Rattle.avro_container.proofs.Parts.{Took, drop_behind, range_is, took_then, took_as}
-use Rattle.avro_container.proofs.Steps.{bind_then, map_ok, test_failed, ok_is}
+use Rattle.words.specs.Parts.{Took, behind_is, range_is, enough_are, enough_stand, took_then, took_as}
+use Rattle.words.specs.Steps.{bind_then, map_ok, test_failed, ok_is}
 use Rattle.avro_container.proofs.SpelledNumber.{number_took}
+
+-- the bytes that stand at a place, whatever follows
+pub slice_is : (input : List ℕ) (place : ℕ) (bytes rest : List ℕ) → drop place input ≡ bytes ++ rest
+    → slice_range input place (place + length bytes) ≡ bytes
+slice_is input place bytes rest parts =
+    range_is input place (place + length bytes) bytes (record { rest = rest; parts = parts; ends = refl })
 
 -- ---- a length and that many bytes
 
 -- so many bytes that are there
-pub range_took : (input : List ℕ) (place count : ℕ) → count ≤ length input - place → Took input place (place + count) (λ bytes. (bytes ≡ slice_range input place (place + count)) × (length bytes ≡ count))
-range_took input place count enough =
-    let size : place + count - place ≡ count = omega arith in
-    let long_enough : length (take count (drop place input)) ≡ count = length-take-le count (drop place input) (omega (arith, length-drop place input)) in
-    record {
-      bytes = take count (drop place input);
-      rest = drop count (drop place input);
-      parts = sym (take-append-drop count (drop place input));
-      ends = omega arith;
-      such = (ap (λ (n : ℕ). take n (drop place input)) (sym size), long_enough);
-    }
+pub range_took : (input : List ℕ) (place count : ℕ) → count ≤ length input - place → Took input place (place + count)
+    (λ bytes. (bytes ≡ slice_range input place (place + count)) × (length bytes ≡ count))
+range_took input place count enough = record {
+  bytes = slice_range input place (place + count);
+  stand = enough_stand input place count enough;
+  such = (refl, enough_are input place count enough);
+}
 
 -- so many bytes behind their number
-bytes_are : (value all : List ℕ) (n : ℕ) → Joined (λ front. SpellsNumber long front (pos n)) (λ bytes. (bytes ≡ value) × (length bytes ≡ n)) all → SpellsBytes value all
+bytes_are : (value all : List ℕ) (n : ℕ) → Joined (λ front. SpellsNumber long front (pos n))
+    (λ bytes. (bytes ≡ value) × (length bytes ≡ n)) all → SpellsBytes value all
 bytes_are value all n joined =
     let size : n ≡ length value = sym joined.second.1 ∙ ap length joined.second.0 in
     record { front = joined.front; rest = joined.rest; parts = joined.parts; first = subst (λ (k : ℕ). SpellsNumber long joined.front (pos k)) size joined.first; second = joined.second.0 }
 
 -- what lies behind a length
-behind_took : (input : List ℕ) (place : ℕ) (value : ℤ) (start : ℕ) (range : ℕ × ℕ) → Took input place start (λ bytes. SpellsNumber long bytes value) → range_behind place input (value, start) ≡ Ok range
+behind_took : (input : List ℕ) (place : ℕ) (value : ℤ) (start : ℕ) (range : ℕ × ℕ)
+    → Took input place start (λ bytes. SpellsNumber long bytes value)
+    → range_behind place input (value, start) ≡ Ok range
     → Took input place range.1 (SpellsBytes (slice_range input range.0 range.1))
 behind_took input place (negsuc n) start range first read = absurd cc
 behind_took input place (pos n) start range first read =
@@ -45,7 +51,8 @@ behind_took input place (pos n) start range first read =
     subst (λ (r : ℕ × ℕ). Took input place r.1 (SpellsBytes (slice_range input r.0 r.1))) (ok_is (start, start + n) range passed.1) whole
 
 -- what is read is spelled so
-pub item_took : (input : List ℕ) (place : ℕ) (range : ℕ × ℕ) → item_at input place ≡ Ok range → Took input place range.1 (SpellsBytes (slice_range input range.0 range.1))
+pub item_took : (input : List ℕ) (place : ℕ) (range : ℕ × ℕ) → item_at input place ≡ Ok range
+    → Took input place range.1 (SpellsBytes (slice_range input range.0 range.1))
 unfolding item_at bytes_at
 item_took input place range read =
     bind_then (number_at long input place) (range_behind place input) range (map_ok header_refusal (bytes_at input place) range read)
@@ -58,7 +65,8 @@ pub record ItemAgain (input : List ℕ) (place : ℕ) (bytes value : List ℕ) :
   pub value_is : slice_range input start (place + length bytes) ≡ value
 
 -- what is spelled so is read, whatever follows
-pub item_again : (input : List ℕ) (place : ℕ) (bytes rest value : List ℕ) → drop place input ≡ bytes ++ rest → SpellsBytes value bytes → ItemAgain input place bytes value
+pub item_again : (input : List ℕ) (place : ℕ) (bytes rest value : List ℕ) → drop place input ≡ bytes ++ rest
+    → SpellsBytes value bytes → ItemAgain input place bytes value
 unfolding item_at
 item_again input place bytes rest value parts spelled =
     let whole : drop place input ≡ spelled.front ++ (value ++ rest) = parts ∙ ap (λ (x : List ℕ). x ++ rest) (spelled.parts ∙ ap (λ (x : List ℕ). spelled.front ++ x) spelled.second) ∙ append_assoc spelled.front value rest in
@@ -67,7 +75,7 @@ item_again input place bytes rest value parts spelled =
     record {
       start = place + length spelled.front;
       read = rw (again, ← size) refl;
-      value_is = rw size (range_is input (place + length spelled.front) value rest (drop_behind input place spelled.front (value ++ rest) whole));
+      value_is = rw size (slice_is input (place + length spelled.front) value rest (behind_is input place spelled.front (value ++ rest) whole));
     }
 
 -- ---- so many bytes

@@ -1,13 +1,14 @@
 -- The first bytes of a file by the relation: what is read is spelled so, and what is spelled so is read.
-use Rattle.std.proofs.Common.{◌≡◌, ℕ, ◌+◌, ◌≤◌, true, cond, List, ◌++◌, length, take, drop, Ok, Err, nat_lt, refl, sym, ap, ◌∙◌, arith}
+use Rattle.std.proofs.Common.{◌≡◌, ℕ, ◌+◌, ◌≤◌, true, cond, List, ◌++◌, length, take, drop, Ok, Err, nat_lt, refl}
+use Rattle.std.proofs.Common.{sym, ap, ◌∙◌, arith}
 use Rattle.std.specs.Str.{bytes_eq}
 use Rattle.std.proofs.lemmas.Bool.{ltb-false, le-ltb}
 use Rattle.std.proofs.lemmas.List.{length-append, length-take-le, take_all, take_at, take-append-drop}
 use Rattle.std.proofs.lemmas.Slice.Eq.{bytes_eq-Decides}
 use Rattle.avro_container.specs.declared.refusal.ContainerRefusal.TheVariants.{Magic, Short}
 use Rattle.avro_container.specs.Header.{magic, magic_at}
-use Rattle.avro_container.proofs.Parts.{Took, drop_behind}
-use Rattle.avro_container.proofs.Steps.{test_passed, test_failed}
+use Rattle.words.specs.Parts.{Took, behind_is}
+use Rattle.words.specs.Steps.{test_passed, test_failed}
 
 -- the first bytes are those of a file
 pub magic_took : (input : List ℕ) (after : ℕ) → magic_at input ≡ Ok after → Took input 0 after (λ bytes. bytes ≡ magic)
@@ -20,19 +21,21 @@ magic_took input after read =
     let ends : 4 ≡ after = cc in
     record {
       bytes = take 4 input;
-      rest = drop 4 input;
-      parts = sym (take-append-drop 4 input);
-      ends = omega (arith, length-take-le 4 input long);
+      stand = record {
+        rest = drop 4 input;
+        parts = sym (take-append-drop 4 input);
+        ends = omega (arith, length-take-le 4 input long);
+      };
       such = same ∙ take_all (length input) magic long;
     }
 
 -- they are four
 pub magic_is : (input : List ℕ) (after : ℕ) → magic_at input ≡ Ok after → after ≡ 4
-magic_is input after read = let first = magic_took input after read in first.ends ∙ omega (arith, ap length first.such)
+magic_is input after read = let first = magic_took input after read in first.stand.ends ∙ omega (arith, ap length first.such)
 
 -- which lie within the input
 pub four_within : (input : List ℕ) → Took input 0 4 (λ bytes. bytes ≡ magic) → 4 ≤ length input
-four_within input first = omega (arith, ap length first.parts, length-append first.bytes first.rest, first.ends)
+four_within input first = omega (arith, ap length first.stand.parts, length-append first.bytes first.stand.rest, first.stand.ends)
 
 -- the bytes of a file are read, whatever follows
 pub magic_again : (input rest : List ℕ) → input ≡ magic ++ rest → magic_at input ≡ Ok 4
@@ -45,4 +48,4 @@ magic_again input rest parts =
 
 -- what stands behind the map
 pub behind_map : (input map rest : List ℕ) → input ≡ magic ++ (map ++ rest) → drop (4 + length map) input ≡ rest
-behind_map input map rest whole = drop_behind input 4 map rest (drop_behind input 0 magic (map ++ rest) whole)
+behind_map input map rest whole = behind_is input 4 map rest (behind_is input 0 magic (map ++ rest) whole)

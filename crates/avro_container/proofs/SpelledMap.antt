@@ -1,12 +1,13 @@
 -- The header's map by the relation: what is read is spelled so, and what is spelled so is read.
-use Rattle.std.proofs.Common.{◌≡◌, ℕ, zero, suc, ◌+◌, ◌-◌, ◌<◌, ◌≤◌, ℤ, pos, List, [], ◌∷◌, ◌++◌, length, drop, Ok, inl, inr, refl, sym, ap, subst, ◌∙◌, append_assoc, arith}
+use Rattle.std.proofs.Common.{◌≡◌, ℕ, zero, suc, ◌+◌, ◌-◌, ◌<◌, ◌≤◌, ℤ, pos, List, [], ◌∷◌, ◌++◌, length, drop, Ok}
+use Rattle.std.proofs.Common.{inl, inr, refl, sym, ap, subst, ◌∙◌, append_assoc, arith}
 use Rattle.std.specs.List.{flat_map}
 use Rattle.std.proofs.lemmas.List.{length-append, append-nil}
 use Rattle.avro_wire.specs.Blocks.{SpellsBlocks}
 use Rattle.avro_container.specs.Header.{Pair, most_pairs, is_natural, map_number_at, map_block_at, map_at}
 use Rattle.avro_container.specs.Format.{SpellsPair}
-use Rattle.avro_container.proofs.Parts.{Took, drop_behind, took_then, took_moves}
-use Rattle.avro_container.proofs.Steps.{bind_then, cond_is, ok_is}
+use Rattle.words.specs.Parts.{Took, behind_is, took_then, took_moves}
+use Rattle.words.specs.Steps.{bind_then, cond_is, ok_is}
 use Rattle.avro_container.proofs.SpelledNumber.{number_some, map_number_took, map_number_again}
 use Rattle.avro_container.proofs.SpelledMapBlock.{block_took, block_again}
 use Rattle.avro_container.proofs.Keys.{IsSoFar, so_far_front}
@@ -25,7 +26,8 @@ pub record MapTook (pairs : List Pair) (input : List ℕ) (place : ℕ) (taken :
   pub few : length taken.0 ≤ most_pairs
 
 -- the count 0 ends the map
-map_ended : (pairs : List Pair) (input : List ℕ) (place : ℕ) (count : ℤ × ℕ) → map_number_at input place ≡ Ok count → count.0 ≡ pos 0 → IsSoFar pairs → length pairs ≤ most_pairs → MapTook pairs input place (pairs, count.1)
+map_ended : (pairs : List Pair) (input : List ℕ) (place : ℕ) (count : ℤ × ℕ) → map_number_at input place ≡ Ok count
+    → count.0 ≡ pos 0 → IsSoFar pairs → length pairs ≤ most_pairs → MapTook pairs input place (pairs, count.1)
 map_ended pairs input place count read none kept few = record {
   blocks = [];
   grown = sym (append-nil pairs);
@@ -35,7 +37,9 @@ map_ended pairs input place count read none kept few = record {
 }
 
 -- what is read is spelled so, where as many blocks are tried as there are bytes
-pub map_took : (tries : ℕ) (pairs : List Pair) (input : List ℕ) (place : ℕ) (taken : List Pair × ℕ) → map_at tries pairs input place ≡ Ok taken → length input - place < tries → IsSoFar pairs → length pairs ≤ most_pairs → MapTook pairs input place taken
+pub map_took : (tries : ℕ) (pairs : List Pair) (input : List ℕ) (place : ℕ) (taken : List Pair × ℕ)
+    → map_at tries pairs input place ≡ Ok taken → length input - place < tries → IsSoFar pairs
+    → length pairs ≤ most_pairs → MapTook pairs input place taken
 unfolding map_at
 map_took zero pairs input place taken read enough kept few = absurd (omega arith)
 map_took (suc tries) pairs input place taken read enough kept few =
@@ -57,7 +61,9 @@ map_took (suc tries) pairs input place taken read enough kept few =
     ])
 
 -- what is spelled so is read, whatever follows
-pub map_again : (blocks : List (List Pair)) (tries : ℕ) (pairs : List Pair) (input : List ℕ) (place : ℕ) (bytes rest : List ℕ) → drop place input ≡ bytes ++ rest → SpellsBlocks SpellsPair blocks bytes → length bytes ≤ tries
+pub map_again : (blocks : List (List Pair)) (tries : ℕ) (pairs : List Pair) (input : List ℕ) (place : ℕ)
+    (bytes rest : List ℕ) → drop place input ≡ bytes ++ rest → SpellsBlocks SpellsPair blocks bytes
+    → length bytes ≤ tries
     → IsSoFar (pairs ++ pairs_of blocks) → length (pairs ++ pairs_of blocks) ≤ most_pairs → map_at tries pairs input place ≡ Ok (pairs ++ pairs_of blocks, place + length bytes)
 unfolding map_at
 map_again [] zero pairs input place bytes rest parts spelled enough kept few = absurd (omega (arith, number_some bytes (pos 0) spelled))
@@ -71,7 +77,7 @@ map_again (more ∷ blocks) (suc tries) pairs input place bytes rest parts spell
     let fits : length pairs + length more ≤ most_pairs = omega (arith, ap length together, length-append (pairs ++ more) (pairs_of blocks), length-append pairs more) in
     let kept_here : IsSoFar (pairs ++ more) = so_far_front (pairs ++ more) (pairs_of blocks) (rw together kept) in
     let first = block_again place pairs input spelled.front (spelled.rest ++ rest) more whole spelled.first kept_here fits in
-    let behind = drop_behind input place spelled.front (spelled.rest ++ rest) whole in
+    let behind = behind_is input place spelled.front (spelled.rest ++ rest) whole in
     let left : length spelled.rest ≤ tries = omega (arith, block_some more spelled.front spelled.first) in
     let others = map_again blocks tries (pairs ++ more) input (place + length spelled.front) spelled.rest rest behind spelled.second left (rw together kept) (rw together few) in
     let size : place + length spelled.front + length spelled.rest ≡ place + length bytes = omega arith in

@@ -5,8 +5,8 @@ use Rattle.avro_wire.specs.Reading.{number_at}
 use Rattle.avro_wire.specs.ReadingLaws.{front_cases, number_again, number_short, number_long}
 use Rattle.avro_container.specs.Refusal.{header_refusal}
 use Rattle.avro_container.specs.Header.{map_number_at}
-use Rattle.avro_container.proofs.Parts.{Took}
-use Rattle.avro_container.proofs.Steps.{map_ok}
+use Rattle.words.specs.Parts.{Took}
+use Rattle.words.specs.Steps.{map_ok}
 
 -- a number takes a byte at least
 pub number_some : (bytes : List ℕ) (value : ℤ) → SpellsNumber long bytes value → 0 < length bytes
@@ -14,24 +14,28 @@ number_some [] value spelled = absurd spelled.groups
 number_some (b ∷ bytes) value spelled = omega arith
 
 -- a number that is read is spelled so
-pub number_took : (input : List ℕ) (place : ℕ) (taken : ℤ × ℕ) → number_at long input place ≡ Ok taken → Took input place taken.1 (λ bytes. SpellsNumber long bytes taken.0)
+pub number_took : (input : List ℕ) (place : ℕ) (taken : ℤ × ℕ) → number_at long input place ≡ Ok taken
+    → Took input place taken.1 (λ bytes. SpellsNumber long bytes taken.0)
 number_took input place taken read =
     elim (front_cases long (drop place input)) [
       | inl front ↦
           let again = number_again long input place front.bytes front.after front.value front.parts front.spelled in
           let value : taken.0 ≡ front.value = cc in
           let after : taken.1 ≡ place + length front.bytes = cc in
-          record { bytes = front.bytes; rest = front.after; parts = front.parts; ends = after; such = rw value front.spelled }
+          record { bytes = front.bytes; stand = record { rest = front.after; parts = front.parts; ends = after }; such = rw value front.spelled }
       | inr (inl inside) ↦ let e = number_short long input place inside in absurd (cc)
       | inr (inr too_long) ↦ let e = number_long long input place too_long in absurd (cc)
     ]
 
 -- a number of the map that is read is spelled so
-pub map_number_took : (input : List ℕ) (place : ℕ) (taken : ℤ × ℕ) → map_number_at input place ≡ Ok taken → Took input place taken.1 (λ bytes. SpellsNumber long bytes taken.0)
+pub map_number_took : (input : List ℕ) (place : ℕ) (taken : ℤ × ℕ) → map_number_at input place ≡ Ok taken
+    → Took input place taken.1 (λ bytes. SpellsNumber long bytes taken.0)
 unfolding map_number_at
 map_number_took input place taken read = number_took input place taken (map_ok header_refusal (number_at long input place) taken read)
 
 -- a number that is spelled is read in the map, whatever follows
-pub map_number_again : (input : List ℕ) (place : ℕ) (bytes rest : List ℕ) (value : ℤ) → drop place input ≡ bytes ++ rest → SpellsNumber long bytes value → map_number_at input place ≡ Ok (value, place + length bytes)
+pub map_number_again : (input : List ℕ) (place : ℕ) (bytes rest : List ℕ) (value : ℤ)
+    → drop place input ≡ bytes ++ rest → SpellsNumber long bytes value
+    → map_number_at input place ≡ Ok (value, place + length bytes)
 unfolding map_number_at
 map_number_again input place bytes rest value parts spelled = rw (number_again long input place bytes rest value parts spelled) refl

@@ -1,5 +1,6 @@
 -- A pair of a header by the relation: what is read is spelled so, and what is spelled so is read.
-use Rattle.std.proofs.Common.{◌≡◌, ℕ, ◌+◌, true, false, not, ◌&&◌, List, [], ◌∷◌, ◌++◌, length, drop, slice_range, Ok, refl, ap, subst, ◌∙◌, append_assoc, arith}
+use Rattle.std.proofs.Common.{◌≡◌, ℕ, ◌+◌, true, false, not, ◌&&◌, List, [], ◌∷◌, ◌++◌, length, drop, slice_range, Ok}
+use Rattle.std.proofs.Common.{refl, ap, subst, ◌∙◌, append_assoc, arith}
 use Rattle.std.specs.Str.{is_utf8, IsUtf8}
 use Rattle.std.proofs.lemmas.Bool.{and_parts, and_from, not-true}
 use Rattle.std.proofs.lemmas.List.{length-append}
@@ -7,8 +8,8 @@ use Rattle.std.proofs.lemmas.Str.{IsUtf8-from_is_utf8, is_utf8-from_IsUtf8}
 use Rattle.avro_container.specs.declared.refusal.ContainerRefusal.TheVariants.{Header}
 use Rattle.avro_container.specs.Header.{Pair, has_key, item_at, key_at, pair_at}
 use Rattle.avro_container.specs.Format.{SpellsPair}
-use Rattle.avro_container.proofs.Parts.{Took, drop_behind, took_then}
-use Rattle.avro_container.proofs.Steps.{bind_then, test_passed, ok_is}
+use Rattle.words.specs.Parts.{Took, behind_is, took_then}
+use Rattle.words.specs.Steps.{bind_then, test_passed, ok_is}
 use Rattle.avro_container.proofs.SpelledItem.{item_took, item_again}
 use Rattle.avro_container.proofs.Keys.{IsSoFar, so_far_push}
 
@@ -50,7 +51,8 @@ pair_is pairs input place key value kept is read = record {
 }
 
 -- what is read is spelled so
-pub pair_took : (pairs : List Pair) (input : List ℕ) (place : ℕ) (taken : List Pair × ℕ) → pair_at pairs input place ≡ Ok taken → IsSoFar pairs → PairTook pairs input place taken
+pub pair_took : (pairs : List Pair) (input : List ℕ) (place : ℕ) (taken : List Pair × ℕ)
+    → pair_at pairs input place ≡ Ok taken → IsSoFar pairs → PairTook pairs input place taken
 unfolding pair_at
 pair_took pairs input place taken read kept =
     bind_then (key_at pairs input place) _ taken read (λ key first second.
@@ -58,13 +60,14 @@ pair_took pairs input place taken read kept =
     subst (PairTook pairs input place) (ok_is _ taken fourth) (pair_is pairs input place key value kept (key_took pairs input place key first) third)))
 
 -- what is spelled so is read, whatever follows
-pub pair_again : (pairs : List Pair) (input : List ℕ) (place : ℕ) (bytes rest : List ℕ) (p : Pair) → drop place input ≡ bytes ++ rest → SpellsPair p bytes → IsUtf8 p.0 → has_key pairs p.0 ≡ false
+pub pair_again : (pairs : List Pair) (input : List ℕ) (place : ℕ) (bytes rest : List ℕ) (p : Pair)
+    → drop place input ≡ bytes ++ rest → SpellsPair p bytes → IsUtf8 p.0 → has_key pairs p.0 ≡ false
     → pair_at pairs input place ≡ Ok (pairs ++ p ∷ [], place + length bytes)
 unfolding pair_at key_at
 pair_again pairs input place bytes rest p parts spelled text new =
     let whole : drop place input ≡ spelled.front ++ (spelled.rest ++ rest) = parts ∙ ap (λ (x : List ℕ). x ++ rest) spelled.parts ∙ append_assoc spelled.front spelled.rest rest in
     let key = item_again input place spelled.front (spelled.rest ++ rest) p.0 whole spelled.first in
-    let behind = drop_behind input place spelled.front (spelled.rest ++ rest) whole in
+    let behind = behind_is input place spelled.front (spelled.rest ++ rest) whole in
     let value = item_again input (place + length spelled.front) spelled.rest rest p.1 behind spelled.second in
     let test : (is_utf8 p.0 && not (has_key pairs p.0)) ≡ true = and_from (is_utf8 p.0) (not (has_key pairs p.0)) (is_utf8-from_IsUtf8 p.0 text) (ap not new) in
     let size : place + length bytes ≡ place + length spelled.front + length spelled.rest = omega (arith, ap length spelled.parts, length-append spelled.front spelled.rest) in

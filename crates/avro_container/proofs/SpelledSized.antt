@@ -1,5 +1,6 @@
 -- A block of the header's map that tells its size, by the relation: what is read is spelled so, and what is spelled so is read.
-use Rattle.std.proofs.Common.{◌≡◌, ℕ, suc, ◌+◌, ◌-◌, ◌≤◌, ℤ, pos, negsuc, true, false, List, ◌++◌, length, drop, Ok, nat_lt, inr, refl, sym, ap, subst, ◌∙◌, append_assoc, arith}
+use Rattle.std.proofs.Common.{◌≡◌, ℕ, suc, ◌+◌, ◌-◌, ◌≤◌, ℤ, pos, negsuc, true, false, List, ◌++◌, length, drop, Ok}
+use Rattle.std.proofs.Common.{nat_lt, inr, refl, sym, ap, subst, ◌∙◌, append_assoc, arith}
 use Rattle.std.proofs.lemmas.Bool.{eq-eqb, ltb-false, le-ltb}
 use Rattle.std.proofs.lemmas.List.{length-append}
 use Rattle.words.specs.Grammar.{Joined}
@@ -8,8 +9,8 @@ use Rattle.avro_wire.specs.Blocks.{SpellsItems, IsSized}
 use Rattle.avro_container.specs.declared.refusal.ContainerRefusal.TheVariants.{Header}
 use Rattle.avro_container.specs.Header.{Pair, most_pairs, is_natural, map_number_at, pairs_at, sized_at, map_block_at}
 use Rattle.avro_container.specs.Format.{SpellsPair}
-use Rattle.avro_container.proofs.Parts.{drop_behind, took_then, took_as, took_sized}
-use Rattle.avro_container.proofs.Steps.{bind_then, test_passed, test_failed, ok_is}
+use Rattle.words.specs.Parts.{behind_is, took_then, took_as, took_sized}
+use Rattle.words.specs.Steps.{bind_then, test_passed, test_failed, ok_is}
 use Rattle.avro_container.proofs.SpelledNumber.{map_number_took, map_number_again}
 use Rattle.avro_container.proofs.SpelledPairs.{pairs_took, pairs_again}
 use Rattle.avro_container.proofs.Keys.{IsSoFar}
@@ -34,7 +35,9 @@ sized_is n more first after size bytes many true_size joined =
     })
 
 -- what is read is spelled so
-pub sized_took : (place n : ℕ) (pairs : List Pair) (input : List ℕ) (start : ℕ) (taken : List Pair × ℕ) → map_number_at input place ≡ Ok (negsuc n, start) → sized_at place (suc n) pairs input start ≡ Ok taken → IsSoFar pairs
+pub sized_took : (place n : ℕ) (pairs : List Pair) (input : List ℕ) (start : ℕ) (taken : List Pair × ℕ)
+    → map_number_at input place ≡ Ok (negsuc n, start) → sized_at place (suc n) pairs input start ≡ Ok taken
+    → IsSoFar pairs
     → BlockTook pairs input place taken
 unfolding sized_at
 sized_took place n pairs input start taken number read kept =
@@ -56,17 +59,19 @@ sized_took place n pairs input start taken number read kept =
     subst (BlockTook pairs input place) (ok_is items taken test.1) is))
 
 -- what is spelled so is read, whatever follows
-pub sized_again : (place : ℕ) (pairs : List Pair) (input bytes rest : List ℕ) (more : List Pair) → drop place input ≡ bytes ++ rest → IsSized SpellsPair more bytes → IsSoFar (pairs ++ more) → length pairs + length more ≤ most_pairs
+pub sized_again : (place : ℕ) (pairs : List Pair) (input bytes rest : List ℕ) (more : List Pair)
+    → drop place input ≡ bytes ++ rest → IsSized SpellsPair more bytes → IsSoFar (pairs ++ more)
+    → length pairs + length more ≤ most_pairs
     → BlockAgain place pairs input bytes more
 unfolding map_block_at sized_at
 sized_again place pairs input bytes rest more parts block kept few =
     let inner : (block.size ++ block.spelled) ++ rest ≡ block.size ++ (block.spelled ++ rest) = append_assoc block.size block.spelled rest in
     let whole : drop place input ≡ block.count ++ (block.size ++ (block.spelled ++ rest)) = parts ∙ ap (λ (x : List ℕ). x ++ rest) block.whole ∙ append_assoc block.count (block.size ++ block.spelled) rest ∙ ap (λ (x : List ℕ). block.count ++ x) inner in
     let start = place + length block.count in
-    let behind = drop_behind input place block.count (block.size ++ (block.spelled ++ rest)) whole in
+    let behind = behind_is input place block.count (block.size ++ (block.spelled ++ rest)) whole in
     let size = map_number_again input start block.size (block.spelled ++ rest) (pos (length block.spelled)) behind block.sizes in
     let first = start + length block.size in
-    let read = pairs_again more pairs input first block.spelled rest (drop_behind input start block.size (block.spelled ++ rest) behind) block.spells kept in
+    let read = pairs_again more pairs input first block.spelled rest (behind_is input start block.size (block.spelled ++ rest) behind) block.spells kept in
     let many : length more ≡ suc block.less = omega (arith, block.many) in
     let counted : pairs_at (suc block.less) pairs input first ≡ Ok (pairs ++ more, first + length block.spelled) = ap (λ (n : ℕ). pairs_at n pairs input first) (sym many) ∙ read in
     let fits : nat_lt most_pairs (length pairs + suc block.less) ≡ false = le-ltb _ _ (omega arith) in

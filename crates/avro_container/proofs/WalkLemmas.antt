@@ -1,5 +1,6 @@
 -- Blocks one after the other, as the check of a framing and a walk over it go.
-use Rattle.std.proofs.Common.{◌≡◌, ℕ, zero, suc, ◌+◌, ◌-◌, ◌<◌, ◌≤◌, true, List, [], ◌∷◌, length, Result, Ok, Err, is_ok, refl, sym, ap, ◌∙◌, arith}
+use Rattle.std.proofs.Common.{◌≡◌, ℕ, zero, suc, ◌+◌, ◌-◌, ◌<◌, ◌≤◌, true, List, [], ◌∷◌, length, Result, Ok, Err}
+use Rattle.std.proofs.Common.{is_ok, refl, sym, ap, ◌∙◌, arith}
 use Rattle.std.proofs.lemmas.Bool.{le-leb, lt-leb, false≢true}
 use Rattle.words.specs.Reading.{◌>>=◌, outcome, value_or}
 use Rattle.avro_container.specs.declared.block.Frame.{Frame}
@@ -14,7 +15,8 @@ ends_here zero sync block input place le = refl
 ends_here (suc tries) sync block input place le = rw (le-leb _ _ le) refl
 
 -- a block is refused
-pub fails_here : (tries i : ℕ) (sync : List ℕ) (block : ℕ) (input : List ℕ) (place : ℕ) (e : ContainerRefusal) → i < tries → place < length input → frame_at sync block input place ≡ Err e
+pub fails_here : (tries i : ℕ) (sync : List ℕ) (block : ℕ) (input : List ℕ) (place : ℕ) (e : ContainerRefusal)
+    → i < tries → place < length input → frame_at sync block input place ≡ Err e
     → blocks_at (tries - i) sync block input place ≡ Err e
 unfolding blocks_at
 fails_here tries i sync block input place e lt inside refused =
@@ -22,7 +24,8 @@ fails_here tries i sync block input place e lt inside refused =
     rw (left, lt-leb _ _ inside, refused) refl
 
 -- a block is read, and the others stand behind it
-pub goes_on : (tries i : ℕ) (sync : List ℕ) (block : ℕ) (input : List ℕ) (place : ℕ) (frame : Frame) (after : ℕ) → i < tries → place < length input → frame_at sync block input place ≡ Ok (frame, after)
+pub goes_on : (tries i : ℕ) (sync : List ℕ) (block : ℕ) (input : List ℕ) (place : ℕ) (frame : Frame) (after : ℕ)
+    → i < tries → place < length input → frame_at sync block input place ≡ Ok (frame, after)
     → blocks_at (tries - i) sync block input place ≡ (blocks_at (tries - (i + 1)) sync (block + 1) input after >>= λ blocks. Ok (block_of input frame ∷ blocks))
 unfolding blocks_at
 goes_on tries i sync block input place frame after lt inside read =
@@ -58,7 +61,9 @@ none_tried tries i sync block input place le =
     rw none refl
 
 -- the next block of a framing that was checked, and those behind it
-pub walk_goes_on : (sync input : List ℕ) (lent place : ℕ) (frame : Frame) (after : ℕ) → is_ok (blocks_left sync input lent place) ≡ true → lent ≤ place → place < length input → frame_at sync (lent + 1) input place ≡ Ok (frame, after)
+pub walk_goes_on : (sync input : List ℕ) (lent place : ℕ) (frame : Frame) (after : ℕ)
+    → is_ok (blocks_left sync input lent place) ≡ true → lent ≤ place → place < length input
+    → frame_at sync (lent + 1) input place ≡ Ok (frame, after)
     → (is_ok (blocks_left sync input (lent + 1) after) ≡ true) × (value_or [] (blocks_left sync input lent place) ≡ block_of input frame ∷ value_or [] (blocks_left sync input (lent + 1) after))
 walk_goes_on sync input lent place frame after ok before inside read =
     let step = goes_on (length input) lent sync (lent + 1) input place frame after (omega arith) inside read in
@@ -66,6 +71,8 @@ walk_goes_on sync input lent place frame after ok before inside read =
     (behind.0, ap (value_or []) step ∙ behind.1)
 
 -- no block of it is refused
-pub walk_never_fails : (sync input : List ℕ) (lent place : ℕ) (e : ContainerRefusal) → is_ok (blocks_left sync input lent place) ≡ true → lent ≤ place → place < length input → frame_at sync (lent + 1) input place ≡ Err e → ⊥
+pub walk_never_fails : (sync input : List ℕ) (lent place : ℕ) (e : ContainerRefusal)
+    → is_ok (blocks_left sync input lent place) ≡ true → lent ≤ place → place < length input
+    → frame_at sync (lent + 1) input place ≡ Err e → ⊥
 walk_never_fails sync input lent place e ok before inside refused =
     false≢true (sym (ap is_ok (fails_here (length input) lent sync (lent + 1) input place e (omega arith) inside refused)) ∙ ok)

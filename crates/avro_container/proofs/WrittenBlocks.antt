@@ -1,5 +1,6 @@
 -- Blocks as they are written are spelled so.
-use Rattle.std.proofs.Common.{◌≡◌, ℕ, ◌<◌, ◌^◌, ℤ, pos, negsuc, List, [], ◌∷◌, ◌++◌, length, All, refl, ap, subst, append_assoc, arith}
+use Rattle.std.proofs.Common.{◌≡◌, ℕ, ◌<◌, ◌^◌, ℤ, pos, negsuc, List, [], ◌∷◌, ◌++◌, length, All, refl, ap, subst}
+use Rattle.std.proofs.Common.{append_assoc, arith}
 use Rattle.std.specs.Prelude.{◌≤ℤ◌}
 use Rattle.std.specs.List.{flat_map}
 use Rattle.std.proofs.lemmas.Int.{ints}
@@ -19,7 +20,8 @@ natural_is (pos n) some = (n, refl)
 natural_is (negsuc n) some = absurd (omega (arith, ints))
 
 -- a block
-block_spelled : (sync : List ℕ) (block : Block) → length (block_text sync block) < 2 ^ 63 → pos 0 ≤ℤ block.count → HasLongCount block → SpellsBlock sync block (block_text sync block)
+block_spelled : (sync : List ℕ) (block : Block) → length (block_text sync block) < 2 ^ 63 → pos 0 ≤ℤ block.count
+    → HasLongCount block → SpellsBlock sync block (block_text sync block)
 unfolding bytes_text
 block_spelled sync block below some fits =
     let many = natural_is block.count some in
@@ -38,7 +40,8 @@ block_spelled sync block below some fits =
     }
 
 -- each of the blocks
-pub blocks_spelled : (sync : List ℕ) (blocks : List Block) → length (flat_map (block_text sync) blocks) < 2 ^ 63 → All (λ block. pos 0 ≤ℤ block.count) blocks → All HasLongCount blocks
+pub blocks_spelled : (sync : List ℕ) (blocks : List Block) → length (flat_map (block_text sync) blocks) < 2 ^ 63
+    → All (λ block. pos 0 ≤ℤ block.count) blocks → All HasLongCount blocks
     → All (λ block. SpellsBlock sync block (block_text sync block)) blocks
 blocks_spelled sync [] below some fits = All-nil (λ (block : Block). SpellsBlock sync block (block_text sync block))
 blocks_spelled sync (block ∷ blocks) below some fits =

@@ -12,7 +12,8 @@ use Rattle.avro_container.proofs.WrittenMap.{map_spelled}
 use Rattle.avro_container.proofs.WrittenBlocks.{blocks_spelled}
 
 -- the parts, one behind the other
-pub file_is : (container : Container) (first second third fourth : List ℕ) → first ≡ magic → second ≡ first ++ list_text pair_text container.meta → third ≡ second ++ container.sync
+pub file_is : (container : Container) (first second third fourth : List ℕ) → first ≡ magic
+    → second ≡ first ++ list_text pair_text container.meta → third ≡ second ++ container.sync
     → fourth ≡ third ++ flat_map (block_text container.sync) container.blocks → fourth ≡ container_text container
 unfolding container_text
 file_is container first second third fourth a b c d =

@@ -1,6 +1,7 @@
 -- What the blocks of a container file read as: a count, a size, that many bytes, and the header's marker.
 -- Avro 1.11, "Object Container Files".
-use Rattle.std.specs.Prelude.{ℕ, zero, suc, ◌+◌, ◌-◌, ℤ, pos, negsuc, List, [], ◌∷◌, length, Result, Ok, Err, nat_le, slice_range, if◌then◌else◌}
+use Rattle.std.specs.Prelude.{ℕ, zero, suc, ◌+◌, ◌-◌, ℤ, pos, negsuc, List, [], ◌∷◌, length, Result, Ok, Err, nat_le}
+use Rattle.std.specs.Prelude.{slice_range, if◌then◌else◌}
 use Rattle.std.specs.Str.{bytes_eq}
 use Rattle.words.specs.Reading.{◌>>=◌, map_refusal}
 use Rattle.avro_wire.specs.Number.{long}
@@ -28,7 +29,9 @@ frame_at sync block input place = do
   size ← count_at block input count.1
   end ← part_at size.0 input size.1
   after ← part_at 16 input end
-  if bytes_eq (slice_range input end after) sync then Ok (record { count = count.0; start = size.1; end = end }, after) else Err (Sync block)
+  if bytes_eq (slice_range input end after) sync
+      then Ok (record { count = count.0; start = size.1; end = end }, after)
+      else Err (Sync block)
 
 -- the block that lies there
 abbrev pub block_of : List ℕ → Frame → Block

@@ -1,6 +1,8 @@
 -- What the header of a container file reads as: magic bytes, and a map from text to bytes.
 -- Avro 1.11, "Object Container Files"; "Maps" for the map's blocks.
-use Rattle.std.specs.Prelude.{ℕ, zero, suc, ◌+◌, ◌-◌, ℤ, pos, negsuc, Bool, false, not, ◌==◌, ◌&&◌, List, [], ◌∷◌, ◌++◌, length, take, Result, Ok, Err, Option, Some, None, nat_lt, slice_range, codes, if◌then◌else◌}
+use Rattle.std.specs.Prelude.{ℕ, zero, suc, ◌+◌, ◌-◌, ℤ, pos, negsuc, Bool, false, not, ◌==◌, ◌&&◌, List, [], ◌∷◌}
+use Rattle.std.specs.Prelude.{◌++◌, length, take, Result, Ok, Err, Option, Some, None, nat_lt, slice_range, codes}
+use Rattle.std.specs.Prelude.{if◌then◌else◌}
 use Rattle.std.specs.List.{list_any}
 use Rattle.std.specs.Str.{is_utf8, bytes_eq}
 use Rattle.words.specs.Reading.{◌>>=◌, map_refusal, repeated}
@@ -40,7 +42,10 @@ most_pairs = 16777216
 
 -- the first four bytes, or the refusal of others: a front of them at the input's end is only cut short
 unfoldable pub magic_at : List ℕ → Result ℕ ContainerRefusal
-magic_at input = if bytes_eq (take 4 input) (take (length input) magic) then (if nat_lt (length input) 4 then Err (Short 0) else Ok 4) else Err Magic
+magic_at input =
+    if bytes_eq (take 4 input) (take (length input) magic)
+    then (if nat_lt (length input) 4 then Err (Short 0) else Ok 4)
+    else Err Magic
 
 -- the number is this natural one
 abbrev pub is_natural : ℤ → ℕ → Bool
@@ -59,7 +64,9 @@ item_at input place = map_refusal header_refusal (bytes_at input place)
 unfoldable pub key_at : List Pair → List ℕ → ℕ → Result (ℕ × ℕ) ContainerRefusal
 key_at pairs input place = do
   key ← item_at input place
-  if is_utf8 (slice_range input key.0 key.1) && not (has_key pairs (slice_range input key.0 key.1)) then Ok key else Err (Header place)
+  if is_utf8 (slice_range input key.0 key.1) && not (has_key pairs (slice_range input key.0 key.1))
+      then Ok key
+      else Err (Header place)
 
 -- a pair, behind those before it
 unfoldable pub pair_at : List Pair → List ℕ → ℕ → Result (List Pair × ℕ) ContainerRefusal
@@ -78,7 +85,8 @@ pairs_at count pairs input place = repeated (next_pair input) count (pairs, plac
 
 -- the pairs of a block whose count stood at the place; there may be no more than most_pairs in all
 unfoldable pub counted_at : ℕ → ℕ → List Pair → List ℕ → ℕ → Result (List Pair × ℕ) ContainerRefusal
-counted_at place count pairs input start = if nat_lt most_pairs (length pairs + count) then Err (Header place) else pairs_at count pairs input start
+counted_at place count pairs input start =
+    if nat_lt most_pairs (length pairs + count) then Err (Header place) else pairs_at count pairs input start
 
 -- the pairs of a block that tells its size in bytes, which has to be true
 unfoldable pub sized_at : ℕ → ℕ → List Pair → List ℕ → ℕ → Result (List Pair × ℕ) ContainerRefusal
@@ -108,7 +116,10 @@ check_codec (Some name) = if bytes_eq name (codes "null") then Ok [] else Err (C
 
 -- the header has a schema, and no codec but null
 unfoldable pub checked : List Pair × ℕ → Result (List Pair × ℕ) ContainerRefusal
-checked (pairs, place) = if has_key pairs schema_key then (check_codec (bound_to pairs codec_key) >>= λ _. Ok (pairs, place)) else Err (Header place)
+checked (pairs, place) =
+    if has_key pairs schema_key
+    then (check_codec (bound_to pairs codec_key) >>= λ _. Ok (pairs, place))
+    else Err (Header place)
 
 -- the next count bytes, whole: where they end
 unfoldable pub part_at : ℕ → List ℕ → ℕ → Result ℕ ContainerRefusal

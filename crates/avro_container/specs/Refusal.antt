@@ -3,7 +3,8 @@ use Rattle.std.specs.Prelude.{ℕ, Bool, true, false}
 use Rattle.avro_wire.specs.declared.refusal.WireRefusal.{WireRefusal}
 use Rattle.avro_wire.specs.declared.refusal.WireRefusal.TheVariants as wire
 use Rattle.avro_container.specs.declared.refusal.ContainerRefusal.{ContainerRefusal}
-use Rattle.avro_container.specs.declared.refusal.ContainerRefusal.TheVariants.{Limit, Magic, Header, Codec, Short, Form, Sync, Memory}
+use Rattle.avro_container.specs.declared.refusal.ContainerRefusal.TheVariants.{Limit, Magic, Header, Codec, Short}
+use Rattle.avro_container.specs.declared.refusal.ContainerRefusal.TheVariants.{Form, Sync, Memory}
 
 -- memory ran out, the one free answer
 abbrev pub is_memory : ContainerRefusal → Bool

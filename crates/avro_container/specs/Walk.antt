@@ -10,8 +10,6 @@ abbrev pub walked_of : List ℕ → List Pair → List ℕ → ℕ → ℕ → �
 walked_of input meta sync first place lent = record {
   whole = record { meta = meta; sync = sync; blocks = value_or [] (blocks_left sync input 0 first) };
   left = value_or [] (blocks_left sync input lent place);
-  ahead = length input - place;
-  from_first = length input - first;
 }
 
 -- the blocks were checked, from the first one on and from the next one on

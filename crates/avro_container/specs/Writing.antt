@@ -20,7 +20,9 @@ block_text sync block = number_text block.count ++ (bytes_text block.bytes ++ sy
 
 -- the file: magic bytes, the header's map, the marker, the blocks
 unfoldable pub container_text : Container → List ℕ
-container_text container = magic ++ (list_text pair_text container.meta ++ (container.sync ++ flat_map (block_text container.sync) container.blocks))
+container_text container =
+    magic ++ (list_text pair_text container.meta
+    ++ (container.sync ++ flat_map (block_text container.sync) container.blocks))
 
 -- the key is text, as in a header
 abbrev pub HasTextKey : Pair → Type 0

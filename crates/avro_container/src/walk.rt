@@ -1,10 +1,12 @@
 //! The whole framing of a file checked, and its blocks lent one after the other.
 
-ghost use Rattle.std.specs.Prelude.{◌≡◌, ◌≤◌, [], ◌∷◌, length, IfNone, IfSome, IfOk, MatchOption, ◌+◌};
+ghost use Rattle.std.specs.Prelude.{◌≡◌, ℕ, ◌≤◌, List, [], ◌∷◌, length, IfNone, IfOk, Ok, MatchOption};
 ghost use Rattle.words.specs.Reading.{Gives, never, outcome};
 ghost use Rattle.avro_container.specs.Refusal.{is_memory};
 ghost use Rattle.avro_container.specs.Block.{blocks_at};
-ghost use Rattle.avro_container.specs.Container.{container_at};
+ghost use Rattle.avro_container.specs.Container.{most_bytes, container_at};
+ghost use Rattle.avro_container.specs.Format.{IsContainer};
+ghost use Rattle.avro_container.specs.declared.container.Container.{Container};
 
 use crate::block::{SYNC_BYTES, take_frame};
 use crate::container::Meta;
@@ -18,7 +20,7 @@ use std::marker::Model;
 const MOST_BYTES: u64 = 67_108_864;
 
 /// The blocks of a container, lent one after the other from bytes whose framing was checked whole.
-/// Contracts see the container, and those of its blocks that are left.
+/// Contracts see the whole container, and those of its blocks that are left.
 #[derive(Drop)]
 pub struct Walk<'a> {
     input: &'a [u8],
@@ -66,10 +68,7 @@ impl<'a> Walk<'a> {
             (λ block. self.old.left
             ≡ record { count = block.0; bytes = block.1.now } ∷ self.new.left) }
         ensures end { IfNone result (self.new ≡ self.old) }
-        ensures ahead { IfSome result (λ block.
-            length block.1.now + self.new.ahead ≤ self.old.ahead) }
         ensures whole { self.new.whole ≡ self.old.whole }
-        ensures from_first { self.new.from_first ≡ self.old.from_first }
     {
         if self.place >= self.input.len() {
             return None;
@@ -86,9 +85,7 @@ impl<'a> Walk<'a> {
     /// Goes back to the first block.
     pub fn restart(&mut self)
         ensures start { self.new.left ≡ self.old.whole.blocks }
-        ensures ahead { self.new.ahead ≡ self.old.from_first }
         ensures whole { self.new.whole ≡ self.old.whole }
-        ensures from_first { self.new.from_first ≡ self.old.from_first }
     {
         self.place = self.first;
         self.lent = 0;
@@ -103,12 +100,36 @@ impl<'a> Walk<'a> {
 }
 
 /// Checks the whole framing of the bytes: the container is there, and its blocks can be lent.
-#[tactic(auto, unfolding(crate::specs::Container::container_at))]
+/// Avro spec, "Object Container Files".
 pub fn open_walk(alloc: Global, input: &[u8]) -> Result<Walk<'_>, ContainerRefusal>
+    // The bytes are the file of the container, and each file within the limit is opened.
+    ensures found { IfOk result (λ walk. IsContainer input.now walk.whole) }
+    ensures only { (container : Container) → IsContainer input.now container
+        → length input.now ≤ most_bytes
+        → Gives is_memory (λ walk. walk.whole) result (Ok container) }
+    // All blocks are left, and no more than there are bytes.
+    ensures start { IfOk result (λ walk. walk.left ≡ walk.whole.blocks) }
+    ensures few { IfOk result (λ walk. length walk.whole.blocks ≤ length input.now) }
+    // Which refusal comes.
+    ensures exact { Gives is_memory (λ walk. walk.whole) result (container_at input.now) }
+{
+    walk_of(alloc, input)
+}
+
+/// A law and no code: what the bytes read as is the container whose file they are, and a container
+/// whose file is within the limit is what its file reads as.
+pub fn reads_agree()
+    ensures found { (input : List ℕ) (container : Container)
+        → container_at input ≡ Ok container → IsContainer input container }
+    ensures only { (input : List ℕ) (container : Container) → IsContainer input container
+        → length input ≤ most_bytes → container_at input ≡ Ok container }
+{}
+
+/// What `open_walk` answers.
+#[tactic(auto, unfolding(crate::specs::Container::container_at))]
+fn walk_of(alloc: Global, input: &[u8]) -> Result<Walk<'_>, ContainerRefusal>
     ensures exact { Gives is_memory (λ walk. walk.whole) result (container_at input.now) }
     ensures start { IfOk result (λ walk. walk.left ≡ walk.whole.blocks) }
-    ensures ahead { IfOk result (λ walk. walk.ahead ≤ length input.now) }
-    ensures from_first { IfOk result (λ walk. walk.from_first ≡ walk.ahead) }
 {
     if input.len() as u64 > MOST_BYTES {
         return Err(ContainerRefusal::Limit {

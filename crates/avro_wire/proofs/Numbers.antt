@@ -1,5 +1,6 @@
 -- Numbers by the relation: the clauses of the takes.
-use Rattle.std.proofs.Common.{◌≡◌, ℕ, ◌+◌, ◌-◌, ℤ, List, ◌++◌, ◌↔◌, false, length, take, drop, slice_range, Result, Ok, Err, IfOk, inl, inr, refl, sym, ap, ◌∙◌, arith}
+use Rattle.std.proofs.Common.{◌≡◌, ℕ, ◌+◌, ◌-◌, ℤ, List, ◌++◌, ◌↔◌, false, length, take, drop, slice_range, Result}
+use Rattle.std.proofs.Common.{Ok, Err, IfOk, inl, inr, refl, sym, ap, ◌∙◌, arith}
 use Rattle.std.specs.List.{prefix_len}
 use Rattle.std.proofs.lemmas.List.{take_at}
 use Rattle.words.specs.Reading.{Gives}

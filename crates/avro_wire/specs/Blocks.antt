@@ -36,7 +36,7 @@ abbrev pub SpellsBlocks : {A : Type 0} → (A → List ℕ → Type 0) → List 
 SpellsBlocks SpellsItem [] bytes = SpellsNumber long bytes (pos 0)
 SpellsBlocks SpellsItem (items ∷ others) bytes =
     Joined (λ front. IsCounted SpellsItem items front ⊎ IsSized SpellsItem items front) (SpellsBlocks SpellsItem others)
-      bytes
+    bytes
 
 -- items, in whatever blocks they stand
 pub record SpellsList {A : Type 0} (SpellsItem : A → List ℕ → Type 0) (items : List A) (bytes : List ℕ) : Type 0 where

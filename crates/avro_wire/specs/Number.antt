@@ -1,7 +1,7 @@
 -- What the bytes of a number mean: groups of seven bits, low group first, and zig-zag.
 -- Avro 1.11, "Binary encoding", "Primitive types": int and long.
-use Rattle.std.specs.Prelude.{◌≡◌, ℕ, ◌+◌, ◌-◌, ◌*◌, ◌/◌, ◌%◌, ◌^◌, ◌<◌, ◌≤◌, ℤ, pos, negsuc, ◌<ℤ◌, ◌⊎◌, List, [],
-  ◌∷◌, ◌++◌, length, take, All, if◌then◌else◌, ◌==◌}
+use Rattle.std.specs.Prelude.{◌≡◌, ℕ, ◌+◌, ◌-◌, ◌*◌, ◌/◌, ◌%◌, ◌^◌, ◌<◌, ◌≤◌, ℤ, pos, negsuc, ◌<ℤ◌, ◌⊎◌, List, []}
+use Rattle.std.specs.Prelude.{◌∷◌, ◌++◌, length, take, All, if◌then◌else◌, ◌==◌}
 
 -- every byte but the last has the high bit set, and the last one has not
 abbrev pub IsGroups : List ℕ → Type 0

@@ -1,6 +1,6 @@
 -- What the takes answer: the item at a place, and the place after it, or the first refusal.
-use Rattle.std.specs.Prelude.{ℕ, ◌+◌, ◌-◌, ℤ, pos, negsuc, Bool, List, length, take, drop, Result, Ok, Err, nat_lt,
-  nat_le, if◌then◌else◌}
+use Rattle.std.specs.Prelude.{ℕ, ◌+◌, ◌-◌, ℤ, pos, negsuc, Bool, List, length, take, drop, Result, Ok, Err, nat_lt}
+use Rattle.std.specs.Prelude.{nat_le, if◌then◌else◌}
 use Rattle.std.specs.List.{prefix_len}
 use Rattle.words.specs.Reading.{◌>>=◌}
 use Rattle.avro_wire.specs.declared.refusal.WireRefusal.{WireRefusal}

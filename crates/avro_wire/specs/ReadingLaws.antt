@@ -1,13 +1,13 @@
 -- What is read if the relation says what stands at a place, and what can stand there.
-use Rattle.std.proofs.Common.{◌≡◌, ℕ, ◌+◌, ◌-◌, ◌≤◌, ℤ, pos, true, false, List, ◌++◌, ◌⊎◌, length, take, drop, All, Ok,
-  Err, nat_le, nat_lt, inl, inr, refl, sym, ap, subst, ◌∙◌, arith}
+use Rattle.std.proofs.Common.{◌≡◌, ℕ, ◌+◌, ◌-◌, ◌≤◌, ℤ, pos, true, false, List, ◌++◌, ◌⊎◌, length, take, drop, All}
+use Rattle.std.proofs.Common.{Ok, Err, nat_le, nat_lt, inl, inr, refl, sym, ap, subst, ◌∙◌, arith}
 use Rattle.std.specs.List.{prefix_len}
 use Rattle.std.proofs.lemmas.Bool.{cases_lt, le-leb, lt-leb, lt-ltb, le-ltb}
 use Rattle.std.proofs.lemmas.List.{length-drop, length-append, length-take-le, take_all, take_at, take-append-drop}
 use Rattle.std.proofs.lemmas.List.Sums.{prefix_len-le-length}
 use Rattle.avro_wire.specs.declared.refusal.WireRefusal.TheVariants.{Short, TooLong}
-use Rattle.avro_wire.specs.Number.{Bounds, long, IsGroups, groups_value, unzigzag, SpellsNumber, EndsInside, IsTooLong,
-  BeginsWith, Anything}
+use Rattle.avro_wire.specs.Number.{Bounds, long, IsGroups, groups_value, unzigzag, SpellsNumber, EndsInside}
+use Rattle.avro_wire.specs.Number.{IsTooLong, BeginsWith, Anything}
 use Rattle.avro_wire.specs.Reading.{has_high_bit, high_bytes, number_bytes, groups_at, number_at, bytes_at}
 use Rattle.avro_wire.specs.GroupsLaws.{groups_front, groups_high, high_front, front_high}
 
@@ -54,7 +54,7 @@ number_short bounds input place ends =
     let most : prefix_len has_high_bit rest ≤ length rest = prefix_len-le-length has_high_bit rest in
     let few : nat_le bounds.bytes (high_bytes input place) ≡ false = lt-leb _ _ (omega (arith, most, ends.few)) in
     let outside : nat_le (length input) (place + high_bytes input place) ≡ true =
-        le-leb _ _ (omega (arith, length-drop place input, high)) in
+    le-leb _ _ (omega (arith, length-drop place input, high)) in
     rw (few, outside) refl
 
 -- too many bytes, or too large a value, are refused as too long
@@ -131,5 +131,5 @@ pub bytes_again : (input : List ℕ) (place : ℕ) (bytes after : List ℕ) (siz
 unfolding bytes_at
 bytes_again input place bytes after size parts spelled enough =
     let fits : nat_lt (length input - (place + length bytes)) size ≡ false =
-        le-ltb _ _ (omega (arith, left_behind input place bytes after parts)) in
+    le-ltb _ _ (omega (arith, left_behind input place bytes after parts)) in
     rw (number_again long input place bytes after (pos size) parts spelled, fits) refl

@@ -1,8 +1,8 @@
 -- What the puts put: the fewest bytes that spell a number, and bytes behind their length.
 -- Avro 1.11, "Binary encoding", "Primitive types": int, long and bytes.
 use Rattle.std.specs.List.{flat_map}
-use Rattle.std.specs.Prelude.{ℕ, zero, suc, ◌+◌, ◌*◌, ◌/◌, ◌%◌, ℤ, pos, negsuc, List, [], ◌∷◌, ◌++◌, length, nat_lt,
-  if◌then◌else◌}
+use Rattle.std.specs.Prelude.{ℕ, zero, suc, ◌+◌, ◌*◌, ◌/◌, ◌%◌, ℤ, pos, negsuc, List, [], ◌∷◌, ◌++◌, length, nat_lt}
+use Rattle.std.specs.Prelude.{if◌then◌else◌}
 
 -- 0, -1, 1, -2, 2, .. stand as 0, 1, 2, 3, 4, ..
 abbrev pub zigzag : ℤ → ℕ

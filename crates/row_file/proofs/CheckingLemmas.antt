@@ -11,7 +11,7 @@ use Rattle.schema_tree.specs.declared.schema.Field.{Field}
 use Rattle.schema_tree.specs.declared.schema.Schema.{Schema}
 use Rattle.avro_container.specs.declared.container.Block.{Block}
 use Rattle.avro_container.specs.declared.container.Container.{Container}
-use Rattle.avro_container.proofs.Steps.{ok_is}
+use Rattle.words.specs.Steps.{ok_is}
 use Rattle.row_file.specs.declared.refusal.RowRefusal.{RowRefusal}
 use Rattle.row_file.specs.declared.row.Layout.{Layout}
 use Rattle.row_file.specs.declared.row.RowRef.{RowRef}

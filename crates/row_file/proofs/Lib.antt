@@ -16,7 +16,6 @@ pub mod BlockLemmas
 pub mod RestLemmas
 pub mod BegunLemmas
 pub mod ShownLemmas
-pub mod FewBlocks
 pub mod CheckingLemmas
 pub mod ReadingLemmas
 pub mod ItemLemmas

@@ -17,7 +17,7 @@ use Rattle.schema_tree.specs.declared.schema.Logical.{Logical}
 use Rattle.schema_tree.specs.declared.schema.Logical.TheVariants.{Date, TimeMicros, StampMicros, StampMicrosUtc}
 use Rattle.schema_tree.specs.declared.schema.Field.{Field, out-Field}
 use Rattle.avro_container.specs.declared.container.Container.{Container}
-use Rattle.avro_container.proofs.Steps.{bind_then, test_failed, ok_is}
+use Rattle.words.specs.Steps.{bind_then, test_failed, ok_is}
 use Rattle.row_file.specs.declared.refusal.RowRefusal.{RowRefusal}
 use Rattle.row_file.specs.Kind.{Level, Nullable, nullable, holds, is_allowed, int_kind, long_kind, kind_of}
 use Rattle.row_file.specs.Field.{is_this, find_from, find, fields_of}

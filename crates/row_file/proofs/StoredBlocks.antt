@@ -11,7 +11,7 @@ use Rattle.words.specs.Parts.{Stand, Took, stand_first, stand_second, took_then,
 use Rattle.words.specs.Steps.{value_ok}
 use Rattle.avro_container.specs.declared.container.Block.{Block}
 use Rattle.avro_container.specs.Format.{SpellsBlocks}
-use Rattle.avro_container.proofs.Steps.{bind_then, test_passed, ok_is}
+use Rattle.words.specs.Steps.{bind_then, test_passed, ok_is}
 use Rattle.row_file.specs.File.{row_at, next_row, ended, rows_told, count_of, block_rows, blocks_rows, most_rows, check_counts}
 use Rattle.row_file.specs.Stored.{StoresRow, StoresBlock, StoresBlocks}
 use Rattle.row_file.proofs.StoredRows.{row_took, row_again}

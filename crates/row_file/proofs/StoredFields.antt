@@ -7,7 +7,7 @@ use Rattle.row_types.specs.declared.column.Column.{Column}
 use Rattle.row_types.specs.declared.column.Kind.{Kind}
 use Rattle.row_types.specs.declared.column.Kind.TheVariants as kinds
 use Rattle.schema_tree.specs.declared.schema.Field.{Field}
-use Rattle.avro_container.proofs.Steps.{bind_then, test_failed}
+use Rattle.words.specs.Steps.{bind_then, test_failed}
 use Rattle.row_file.specs.Kind.{is_allowed}
 use Rattle.row_file.specs.Field.{Found, find, row_id_field, last_updated_field, is_missing, is_wrong, check_missing, check_kind, check_kinds, check_fields}
 use Rattle.row_file.specs.Stored.{IsThere, HoldsLongs, AreReadable}

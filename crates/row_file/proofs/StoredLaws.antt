@@ -17,7 +17,7 @@ use Rattle.avro_container.specs.declared.container.Container.{Container}
 use Rattle.avro_container.specs.Header.{Pair, has_key, bound_to, schema_key}
 use Rattle.avro_container.specs.Container.{container_at, most_bytes}
 use Rattle.avro_container.specs.Format.{IsContainer}
-use Rattle.avro_container.proofs.Steps.{bind_then, map_ok, ok_is}
+use Rattle.words.specs.Steps.{bind_then, map_ok, ok_is}
 use Rattle.avro_container.proofs.SpelledFile.{container_found, container_again}
 use Rattle.row_file.specs.Refusal.{container_refusal, schema_refusal}
 use Rattle.row_file.specs.Field.{fields_of, check_fields}

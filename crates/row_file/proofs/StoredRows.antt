@@ -12,7 +12,7 @@ use Rattle.datum_reading.specs.Reading.{datum_at}
 use Rattle.words.specs.Parts.{Stand, Took}
 use Rattle.datum_reading.specs.Agreeing.{Passes}
 use Rattle.datum_reading.proofs.SpelledDatum.{agrees_datum}
-use Rattle.avro_container.proofs.Steps.{bind_then, map_ok, test_failed, ok_is}
+use Rattle.words.specs.Steps.{bind_then, map_ok, test_failed, ok_is}
 use Rattle.row_file.specs.Refusal.{datum_refusal}
 use Rattle.row_file.specs.Field.{fields_of}
 use Rattle.row_file.specs.Row.{is_null, values_of, stored_row, check_nulls, checked_row}

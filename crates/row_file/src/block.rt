@@ -16,7 +16,6 @@ use limits::{FILE_ROWS, Which};
 pub fn check_counts(walk: &mut Walk<'_>) -> Result<(), RowRefusal>
     ensures exact { result ≡ check_counts 0 walk.old.left }
     ensures whole { walk.new.whole ≡ walk.old.whole }
-    ensures from_first { walk.new.from_first ≡ walk.old.from_first }
 {
     let mut rows = 0;
     while let Some((count, _)) = walk.next() {
@@ -59,7 +58,6 @@ pub fn check_blocks<'a>(
     ensures few { IfOk result (λ rows. rows ≤ most_rows) }
     ensures width { length row.new.cells.items ≡ length row.old.cells.items }
     ensures whole { walk.new.whole ≡ walk.old.whole }
-    ensures from_first { walk.new.from_first ≡ walk.old.from_first }
 {
     let mut number = 1;
     let mut rows = 0;

@@ -20,8 +20,7 @@ use std::alloc::Global;
 pub fn open_file(alloc: Global, bytes: &[u8]) -> Result<(Walk<'_>, Schema), RowRefusal>
     ensures exact { Gives is_memory (λ file. (file.0.whole, file.1)) result (opened bytes.now) }
     ensures start { IfOk result (λ file. file.0.left ≡ file.0.whole.blocks) }
-    ensures ahead { IfOk result (λ file. file.0.ahead ≤ length bytes.now) }
-    ensures from_first { IfOk result (λ file. file.0.from_first ≡ file.0.ahead) }
+    ensures few { IfOk result (λ file. length file.0.whole.blocks ≤ length bytes.now) }
 {
     let walk = open_blocks(alloc, bytes)?;
     let schema = schema_in(alloc, walk.meta())?;
@@ -33,8 +32,7 @@ fn open_blocks(alloc: Global, bytes: &[u8]) -> Result<Walk<'_>, RowRefusal>
     ensures exact { Gives is_memory (λ walk. walk.whole) result
         (map_refusal container_refusal (container_at bytes.now)) }
     ensures start { IfOk result (λ walk. walk.left ≡ walk.whole.blocks) }
-    ensures ahead { IfOk result (λ walk. walk.ahead ≤ length bytes.now) }
-    ensures from_first { IfOk result (λ walk. walk.from_first ≡ walk.ahead) }
+    ensures few { IfOk result (λ walk. length walk.whole.blocks ≤ length bytes.now) }
 {
     match open_walk(alloc, bytes) {
         Ok(walk) => Ok(walk),

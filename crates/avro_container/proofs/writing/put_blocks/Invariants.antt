@@ -1,5 +1,5 @@
 use Rattle.avro_container.specs.Writing.{block_text, HasLongCount}
-use Rattle.avro_container.proofs.PutLemmas.{ArePut}
+use Rattle.words.specs.Puts.{ArePut}
 use Rattle.avro_container.proofs.writing.put_blocks.Given as goal
 
 abbrev pub invariant-loop-block : goal.invariant-loop-block

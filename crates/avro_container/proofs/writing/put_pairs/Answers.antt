@@ -1,5 +1,5 @@
 use Rattle.avro_container.specs.Writing.{pair_text, HasTextKey}
-use Rattle.avro_container.proofs.PutLemmas.{none_put, next_put, all_put}
+use Rattle.words.specs.Puts.{none_put, next_put, all_put}
 use Rattle.avro_container.proofs.writing.put_pairs.Goals as goal
 
 pub loop-pair-init : goal.loop-pair-init

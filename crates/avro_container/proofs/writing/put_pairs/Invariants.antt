@@ -1,5 +1,5 @@
 use Rattle.avro_container.specs.Writing.{pair_text, HasTextKey}
-use Rattle.avro_container.proofs.PutLemmas.{ArePut}
+use Rattle.words.specs.Puts.{ArePut}
 use Rattle.avro_container.proofs.writing.put_pairs.Given as goal
 
 abbrev pub invariant-loop-pair : goal.invariant-loop-pair

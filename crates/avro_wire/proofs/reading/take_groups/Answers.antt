@@ -1,9 +1,11 @@
 use Rattle.std.proofs.Common.{◌+◌, ◌*◌, ◌≤◌, ℕ, get_or, drop, sym, ap, subst, arith}
 use Rattle.std.proofs.lemmas.List.{length-drop, get_or-drop}
 use Rattle.avro_wire.specs.Number.{Bounds}
-use Rattle.avro_wire.proofs.Groups.{IsRead, goes_on, ends_short, ends_long, ends_well, ends_large, ends_tenth, group_room, bit_room}
+use Rattle.avro_wire.proofs.Groups.{IsRead, goes_on, ends_short, ends_long, ends_well, ends_large, ends_tenth}
+use Rattle.avro_wire.proofs.Groups.{group_room, bit_room}
 use Rattle.avro_wire.proofs.reading.take_groups.Goals as goal
-use Rattle.avro_wire.proofs.reading.take_groups.Goals.{else-index-eq9-via-then-index-eq9+else-byte-gt1, else-index-eq9-via-else-index-eq9}
+use Rattle.avro_wire.proofs.reading.take_groups.Goals.{else-index-eq9-via-then-index-eq9+else-byte-gt1}
+use Rattle.avro_wire.proofs.reading.take_groups.Goals.{else-index-eq9-via-else-index-eq9}
 
 pub returns-then-at-input-clause-exact : goal.returns-then-at-input-clause-exact
 returns-then-at-input-clause-exact c =

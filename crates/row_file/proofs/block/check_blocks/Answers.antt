@@ -15,7 +15,6 @@ loop-count-init c = record {
   counts = c.requires.few;
   width = refl;
   whole = refl;
-  from_first = refl;
   so_far = counts_from_none (blocks_rows c.args.layout.now.schema c.args.layout.now.columns.now 1 c.args.walk.now.left);
 }
 
@@ -39,7 +38,6 @@ loop-count-preserved c =
       counts = sym (counts_on c.loop-count.rows c.rows_told-told.result c.loop-count.walk.left block c.next.new.self.left c.in-Some.ensures.value (sym told) within) ∙ c.loop-count.invariant.counts;
       width = c.in_ok-check_rows.ensures.width ∙ c.loop-count.invariant.width;
       whole = c.in-Some.ensures.whole ∙ c.loop-count.invariant.whole;
-      from_first = c.in-Some.ensures.from_first ∙ c.loop-count.invariant.from_first;
       so_far = sym (blocks_on c.args.layout.now.schema c.args.layout.now.columns.now c.loop-count.number c.loop-count.rows c.rows_told-told.result c.loop-count.walk.left block c.next.new.self.left c.in-Some.ensures.value (sym told) c.in_ok-check_rows.ensures.exact) ∙ c.loop-count.invariant.so_far;
     }
 

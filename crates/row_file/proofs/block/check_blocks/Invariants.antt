@@ -10,7 +10,6 @@ invariant-loop-count l = record {
   counts : check_counts l.rows l.walk.left ≡ Ok tt;
   width : length l.row.cells.items ≡ length l.initial.row.cells.items;
   whole : l.walk.whole ≡ l.initial.walk.whole;
-  from_first : l.walk.from_first ≡ l.initial.walk.from_first;
   so_far : map_value (λ others. l.rows + length others) (blocks_rows l.layout.schema l.layout.columns.now l.number l.walk.left) ≡ map_value length (blocks_rows l.layout.schema l.layout.columns.now 1 l.initial.walk.left);
 }
 

@@ -21,7 +21,6 @@ loop-count-preserved c =
       few = omega arith;
       so_far = sym (counts_on c.loop-count.rows c.rows_told-rows.result c.loop-count.walk.left block c.next.new.self.left c.in-Some.ensures.value (sym told) (omega arith)) ∙ c.loop-count.invariant.so_far;
       whole = c.in-Some.ensures.whole ∙ c.loop-count.invariant.whole;
-      from_first = c.in-Some.ensures.from_first ∙ c.loop-count.invariant.from_first;
     }
 
 pub returns-clause-exact : goal.returns-clause-exact

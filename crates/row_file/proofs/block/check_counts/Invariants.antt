@@ -7,7 +7,6 @@ invariant-loop-count l = record {
   few : l.rows ≤ most_rows;
   so_far : check_counts l.rows l.walk.left ≡ check_counts 0 l.initial.walk.left;
   whole : l.walk.whole ≡ l.initial.walk.whole;
-  from_first : l.walk.from_first ≡ l.initial.walk.from_first;
 }
 
 abbrev pub decreases-loop-count : goal.decreases-loop-count

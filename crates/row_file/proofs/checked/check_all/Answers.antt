@@ -1,11 +1,10 @@
-use Rattle.std.proofs.Common.{arith, rules, SFits}
+use Rattle.std.proofs.Common.{◌<◌, ◌^◌, length, arith, rules, SFits}
 use Rattle.std.specs.Int.{w64}
 use Rattle.std.proofs.lemmas.Int.{to_z-of_z}
 use Rattle.std.proofs.lemmas.Result.{err_from_is_err_and}
 use Rattle.words.specs.Laws.{refused_so}
 use Rattle.row_file.specs.Refusal.{is_memory}
 use Rattle.row_file.specs.Checked.{Shown}
-use Rattle.row_file.proofs.FewBlocks.{few_blocks}
 use Rattle.row_file.proofs.CheckingLemmas.{unopened, file_given}
 use Rattle.row_file.proofs.checked.check_all.Goals as goal
 
@@ -17,8 +16,8 @@ returns-in_err-walk c =
 
 pub check_opened-requires : goal.check_opened-requires
 check_opened-requires c =
-    let few = few_blocks c.args.bytes.now _ c.in_ok-walk.ensures.exact in
-    record { fits = omega (arith, few) }
+    let size : length c.args.bytes.now < 2 ^ 63 = search rules in
+    record { fits = omega (arith, size, c.in_ok-walk.ensures.few) }
 
 pub returns : goal.returns
 returns c =

@@ -1,0 +1,9 @@
+pub mod Object
+pub mod Stream
+pub mod Blocks
+pub mod Left
+pub mod Held
+pub mod StreamLaws
+pub mod BlocksLaws
+pub mod HeldLaws
+pub mod CountLaws
