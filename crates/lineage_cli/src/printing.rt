@@ -10,7 +10,7 @@ ghost use Rattle.pieces.specs.Literal.{escape as escape_of, literal_text};
 ghost use Rattle.pieces.specs.HexLiteral.{hex_text};
 ghost use Rattle.row_pred.specs.Cell.{cell_text};
 ghost use Rattle.row_pred.specs.Cells.{spaced_text, cells_text};
-ghost use Rattle.row_file.specs.Cell.{lent_cell};
+ghost use Rattle.row_types.specs.CellRef.{lent_cell};
 ghost use Rattle.lineage_cli.specs.Output.{Puts, Shows};
 ghost use Rattle.lineage_cli.specs.Text.{spaced, row_line, lines};
 

@@ -24,7 +24,8 @@ use Rattle.row_file.specs.declared.plan.Target.{Target}
 use Rattle.row_file.specs.declared.plan.Target.TheVariants as targets
 use Rattle.row_file.specs.Kind.{Level, Nullable, nullable, primitive_of, holds_as, is_allowed_as, is_allowed}
 use Rattle.row_file.specs.Field.{Found, find, row_id_field, last_updated_field, check_fields}
-use Rattle.row_file.specs.Row.{cell_of, cell_at, cell_with, number_of, stored_row}
+use Rattle.row_types.specs.CellRef.{number_of}
+use Rattle.row_file.specs.Row.{cell_of, cell_at, cell_with, stored_row}
 use Rattle.row_file.specs.Cell.{null_branch, form_with, form_as, form_of}
 use Rattle.row_file.specs.Plan.{with_cell, stepped, ReadsAs, IsWithin, IsAimed, IsStep, IsPlan}
 use Rattle.row_file.specs.Planning.{Aim, aims_from, lineage_aims, planned_as, planned_at, planned, all_planned}

@@ -19,12 +19,12 @@ use Rattle.datum_reading.specs.declared.refusal.DatumRefusal.{DatumRefusal}
 use Rattle.datum_reading.specs.Reading.{fields_at, datum_at}
 use Rattle.datum_reading.specs.Readers.{readers_of, passed}
 use Rattle.datum_reading.specs.Layers.{reads-Rec}
-use Rattle.row_file.specs.declared.cell.CellRef.{CellRef}
-use Rattle.row_file.specs.declared.cell.CellRef.TheVariants as refs
+use Rattle.row_types.specs.declared.cell_ref.CellRef.{CellRef}
+use Rattle.row_types.specs.declared.cell_ref.CellRef.TheVariants as refs
 use Rattle.row_file.specs.declared.refusal.RowRefusal.{RowRefusal}
-use Rattle.row_file.specs.Cell.{lent_cell}
+use Rattle.row_types.specs.CellRef.{is_null, lent_cell, number_of}
 use Rattle.row_file.specs.Field.{Found, find, find_from, fields_of_level, fields_of, row_id_field, last_updated_field}
-use Rattle.row_file.specs.Row.{cell_at, cell_with, number_of, values_of_level, values_of, stored_row, is_null, check_nulls}
+use Rattle.row_file.specs.Row.{cell_at, cell_with, values_of_level, values_of, stored_row, check_nulls}
 use Rattle.row_file.specs.Plan.{as_row, value_as_row}
 
 -- ---- a row without values

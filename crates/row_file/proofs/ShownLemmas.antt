@@ -5,7 +5,7 @@ use Rattle.row_types.specs.declared.row.StoredRow.{StoredRow}
 use Rattle.row_file.specs.declared.row.Layout.{Layout}
 use Rattle.row_file.specs.declared.row.RowRef.{RowRef}
 use Rattle.row_file.specs.declared.checked.Rest.{Rest}
-use Rattle.row_file.specs.Cell.{lent_cell}
+use Rattle.row_types.specs.CellRef.{lent_cell}
 use Rattle.row_file.specs.Row.{row_id_of, row_last_of}
 use Rattle.row_file.specs.File.{rows_from}
 use Rattle.row_file.specs.Checked.{lent_row, Shown, rest_of_file, shown_of, IsRest, IsChecked}

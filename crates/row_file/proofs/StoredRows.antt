@@ -15,7 +15,8 @@ use Rattle.datum_reading.proofs.SpelledDatum.{agrees_datum}
 use Rattle.words.specs.Steps.{bind_then, map_ok, test_failed, ok_is}
 use Rattle.row_file.specs.Refusal.{datum_refusal}
 use Rattle.row_file.specs.Field.{fields_of}
-use Rattle.row_file.specs.Row.{is_null, values_of, stored_row, check_nulls, checked_row}
+use Rattle.row_types.specs.CellRef.{is_null}
+use Rattle.row_file.specs.Row.{values_of, stored_row, check_nulls, checked_row}
 use Rattle.row_file.specs.File.{row_at}
 use Rattle.row_file.specs.Stored.{HasNoNull, StoresRow}
 

@@ -16,7 +16,8 @@ use Rattle.datum_tree.specs.declared.datum.Datum.TheOpen as layers
 use Rattle.datum_tree.specs.declared.datum.Datum.TheVariants as datums
 use Rattle.datum_tree.specs.Value.{Level}
 use Rattle.row_file.specs.Field.{is_this, find_from, fields_of, row_id_field, last_updated_field}
-use Rattle.row_file.specs.Row.{plain_cell, cell_of_level, cell_of, values_of_level, values_of, cell_at, cell_with, number_of, stored_row, is_null}
+use Rattle.row_types.specs.CellRef.{is_null, number_of}
+use Rattle.row_file.specs.Row.{plain_cell, cell_of_level, cell_of, values_of_level, values_of, cell_at, cell_with, stored_row}
 use Rattle.row_file.specs.Stored.{HasNoNull}
 use Rattle.row_file.specs.Writing.{file_schema, column_field, lineage_fields, are_plain_names, cell_datum, optional_datum, cell_data, number_datum, lineage_data, row_datum, kept}
 use Rattle.row_file.proofs.WrittenSchema.{written_fields, this_id, other_id, first_id, later_ids, no_column}

@@ -1,4 +1,4 @@
--- A cell that is lent from the bytes of a file, and how the cells of a field are read.
+-- How the cells of a field are read.
 -- Avro 1.11, "Primitive Types", "Unions"; Iceberg spec, "Appendix A: Format-specific Requirements", "Avro".
 use Rattle.std.specs.Prelude.{ℕ, ◌==◌, List, [], ◌∷◌, Option, Some, None, Result, Ok, slice_get, if◌then◌else◌}
 use Rattle.words.specs.Reading.{◌>>=◌, map_value}
@@ -11,21 +11,11 @@ use Rattle.datum_reading.specs.declared.cursor.Cursor.{Cursor}
 use Rattle.datum_tree.specs.declared.datum.Datum.{Datum}
 use Rattle.datum_reading.specs.declared.refusal.DatumRefusal.{DatumRefusal}
 use Rattle.datum_reading.specs.Reading.{flag_at, num_at, sized_at, text_at, choice_at, datum_at}
-use Rattle.row_file.specs.declared.cell.CellRef.{CellRef}
-use Rattle.row_file.specs.declared.cell.CellRef.TheVariants as refs
 use Rattle.row_file.specs.declared.form.Form.{Form}
 use Rattle.row_file.specs.declared.kind.Primitive.{Primitive}
 use Rattle.row_file.specs.declared.kind.Primitive.TheVariants as primitives
 use Rattle.row_file.specs.Kind.{Level, Nullable, nullable, is_null, primitive_of}
 use Rattle.row_file.specs.Row.{cell_of}
-
--- the cell that is lent
-abbrev pub lent_cell : CellRef → Cell
-lent_cell refs.Null = cells.Null
-lent_cell (refs.Flag flag) = cells.Flag flag
-lent_cell (refs.Num number) = cells.Num number
-lent_cell (refs.Text text) = cells.Text text.now
-lent_cell (refs.Bytes bytes) = cells.Bytes bytes.now
 
 -- ---- how the cells of a type are read
 

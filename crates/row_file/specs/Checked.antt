@@ -8,7 +8,7 @@ use Rattle.row_file.specs.declared.row.RowRef.{RowRef}
 use Rattle.row_file.specs.declared.row.Layout.{Layout}
 use Rattle.row_file.specs.declared.checked.Rest.{Rest}
 use Rattle.row_file.specs.Field.{fields_of}
-use Rattle.row_file.specs.Cell.{lent_cell}
+use Rattle.row_types.specs.CellRef.{lent_cell}
 use Rattle.row_file.specs.Plan.{IsPlan}
 use Rattle.row_file.specs.File.{next_row, blocks_rows, rows_from, most_rows}
 

@@ -14,7 +14,8 @@ use Rattle.row_file.specs.declared.plan.Step.TheVariants.{Skip, Take}
 use Rattle.row_file.specs.declared.plan.Target.{Target}
 use Rattle.row_file.specs.declared.plan.Target.TheVariants as targets
 use Rattle.row_file.specs.Cell.{form_of}
-use Rattle.row_file.specs.Row.{number_of, cell_of, values_of, stored_row}
+use Rattle.row_types.specs.CellRef.{number_of}
+use Rattle.row_file.specs.Row.{cell_of, values_of, stored_row}
 
 -- the row with a cell where the target is
 abbrev pub with_cell : Target → Cell → StoredRow → StoredRow

@@ -4,6 +4,7 @@ use Rattle.std.specs.Prelude.{ℕ, ℤ, pos, ◌+ℤ◌, Bool, true, false, ◌&
 use Rattle.words.specs.Reading.{◌>>=◌}
 use Rattle.row_types.specs.declared.cell.Cell.{Cell}
 use Rattle.row_types.specs.declared.cell.Cell.TheVariants as cells
+use Rattle.row_types.specs.CellRef.{is_null, number_of}
 use Rattle.row_types.specs.declared.column.Column.{Column}
 use Rattle.row_types.specs.declared.row.Row.{Row}
 use Rattle.row_types.specs.declared.row.StoredRow.{StoredRow}
@@ -68,11 +69,6 @@ cell_at values (Some found) = cell_of (slice_get values found.0)
 abbrev pub cell_with : List Field → List Datum → ℤ → Cell
 cell_with fields values id = cell_at values (find id fields)
 
--- a number; none where the cell is null
-abbrev pub number_of : Cell → Option ℤ
-number_of (cells.Num number) = Some number
-number_of _ = None
-
 -- the row that the values of a file's fields store, with a cell for each column
 abbrev pub stored_row : List Column → List Field → List Datum → StoredRow
 stored_row columns fields values = record {
@@ -80,11 +76,6 @@ stored_row columns fields values = record {
   last = number_of (cell_with fields values last_updated_field);
   cells = map (λ column. cell_with fields values column.id) columns;
 }
-
--- the cell is null
-abbrev pub is_null : Cell → Bool
-is_null cells.Null = true
-is_null _ = false
 
 -- no required column has a null; the first one that has is told
 unfoldable pub check_nulls : List Column → List Cell → Result (Unit {0}) RowRefusal

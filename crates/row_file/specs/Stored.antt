@@ -19,7 +19,8 @@ use Rattle.avro_container.specs.Container.{most_bytes}
 use Rattle.avro_container.specs.Format.{IsContainer}
 use Rattle.row_file.specs.Kind.{is_allowed}
 use Rattle.row_file.specs.Field.{Found, find, fields_of, row_id_field, last_updated_field}
-use Rattle.row_file.specs.Row.{is_null, values_of, stored_row}
+use Rattle.row_types.specs.CellRef.{is_null}
+use Rattle.row_file.specs.Row.{values_of, stored_row}
 use Rattle.row_file.specs.File.{most_rows, rows_from}
 
 -- ---- the columns

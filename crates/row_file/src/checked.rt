@@ -4,7 +4,7 @@ ghost use Rattle.std.specs.Prelude.{◌≡◌, ◌<◌, ◌^◌, ◌∷◌, List
 ghost use Rattle.std.specs.Bool.{OnTrue, OnFalse};
 ghost use Rattle.words.specs.Reading.{Gives};
 ghost use Rattle.row_file.specs.Refusal.{is_memory};
-ghost use Rattle.row_file.specs.Cell.{lent_cell};
+ghost use Rattle.row_types.specs.CellRef.{lent_cell};
 ghost use Rattle.row_types.specs.declared.row.StoredRow.{StoredRow as AStoredRow};
 ghost use Rattle.row_file.specs.Field.{fields_of};
 ghost use Rattle.row_file.specs.Plan.{IsPlan};
@@ -15,7 +15,6 @@ ghost use Rattle.row_file.specs.declared.row.Layout.{Layout as ALayout};
 ghost use Rattle.row_file.specs.Checked.{IsRest, rest_of_file};
 
 use crate::block::rows_told;
-use crate::cell::CellRef;
 use crate::checking::{checked_layout, checked_row};
 use crate::lineage::{row_id, row_last};
 use crate::opening::open_file;
@@ -23,7 +22,7 @@ use crate::refusal::RowRefusal;
 use crate::row::{Layout, RowRef, take_row};
 use avro_container::Walk;
 use schema_tree::Schema;
-use row_types::Columns;
+use row_types::{CellRef, Columns};
 use std::alloc::Global;
 use std::marker::Model;
 

@@ -3,11 +3,12 @@
 ghost use Rattle.std.specs.Prelude.{◌≡◌, ◌≤◌, length, IfOk};
 ghost use Rattle.words.specs.Reading.{Gives, never};
 ghost use Rattle.schema_tree.specs.declared.schema.Schema.{out-Schema};
-ghost use Rattle.row_file.specs.Cell.{lent_cell, null_branch, form_of, primitive_at, form_at};
+ghost use Rattle.row_types.specs.CellRef.{lent_cell};
+ghost use Rattle.row_file.specs.Cell.{null_branch, form_of, primitive_at, form_at};
 
-use crate::cell::CellRef;
 use crate::kind::{Primitive, is_null, nullable, primitive_of};
 use datum_reading::{Cursor, DatumRefusal, pass_sized, take_choice, take_flag, take_int_at, take_long_at, take_text};
+use row_types::CellRef;
 use schema_tree::Schema;
 
 /// How the cells of a type are read.

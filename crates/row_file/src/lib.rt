@@ -8,7 +8,7 @@
 //! | `field` | the field of a column, and whether the fields are those of a table |
 //! | `opening` | a file's blocks, and its schema |
 //! | `columns` | the columns of a file, by its own schema |
-//! | `cell`, `form` | a cell that is lent from the bytes of a file, and how the cells of a field are read |
+//! | `form` | how the cells of a field are read |
 //! | `plan`, `row` | which cell of a row each field fills; one row, lent from its bytes |
 //! | `block`, `checking` | the checks of a file's blocks; those of the whole file, in their order |
 //! | `checked` | the rows of a file that was checked |
@@ -17,7 +17,6 @@
 #![tactic(auto)]
 
 mod block;
-mod cell;
 mod checked;
 mod checking;
 mod columns;
@@ -34,10 +33,10 @@ mod row;
 mod row_value;
 mod writing;
 
-pub use cell::CellRef;
 pub use checked::{CheckedRows, check_file};
 pub use columns::file_columns;
 pub use lineage::{row_id, row_last};
 pub use reading::read_rows;
 pub use refusal::RowRefusal;
+pub use row_types::CellRef;
 pub use writing::write_rows;

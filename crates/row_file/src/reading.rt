@@ -4,15 +4,14 @@ ghost use Rattle.std.specs.Prelude.{◌≡◌, List, length, map, Ok, IfOk};
 ghost use Rattle.words.specs.Reading.{Gives};
 ghost use Rattle.row_types.specs.declared.row.StoredRow.{StoredRow as AStoredRow};
 ghost use Rattle.row_file.specs.Refusal.{is_memory};
-ghost use Rattle.row_file.specs.Cell.{lent_cell};
+ghost use Rattle.row_types.specs.CellRef.{lent_cell};
 ghost use Rattle.row_file.specs.File.{rows_of, rows_from};
 ghost use Rattle.row_file.specs.Stored.{StoresRows, ReadsRows, AreRead};
 
-use crate::cell::CellRef;
 use crate::checked::{CheckedRows, check_file};
 use crate::refusal::RowRefusal;
 use lists::List;
-use row_types::{Cells, Columns, Row, RowList};
+use row_types::{CellRef, Cells, Columns, Row, RowList};
 use std::alloc::{AllocError, Global};
 
 /// The rows of the file for a table of these columns, in the order of the file, each with its id

@@ -6,20 +6,20 @@ ghost use Rattle.words.specs.Reading.{Gives, never};
 ghost use Rattle.datum_reading.specs.Readers.{readers_of};
 ghost use Rattle.datum_reading.specs.Reading.{fields_at, datum_at};
 ghost use Rattle.row_file.specs.Refusal.{datum_refusal};
-ghost use Rattle.row_file.specs.Cell.{lent_cell, cell_read};
+ghost use Rattle.row_types.specs.CellRef.{lent_cell};
+ghost use Rattle.row_file.specs.Cell.{cell_read};
 ghost use Rattle.row_file.specs.Field.{fields_of as fields_in};
 ghost use Rattle.row_file.specs.Row.{stored_row, check_nulls};
 ghost use Rattle.row_file.specs.Plan.{ReadsAs, IsWithin, IsAimed, IsPlan, with_cell, put_by, as_row, value_as_row};
 ghost use Rattle.row_file.specs.File.{row_at};
 ghost use Rattle.row_file.specs.Checked.{lent_row};
 
-use crate::cell::CellRef;
 use crate::form::take_cell;
 use crate::plan::{Step, Target};
 use crate::refusal::RowRefusal;
 use datum_reading::{Cursor, DatumRefusal, skip};
 use schema_tree::{Field, Schema};
-use row_types::Column;
+use row_types::{CellRef, Column};
 use std::alloc::{AllocError, Global};
 
 /// A row as a data file holds it, lent from the bytes of the file.

@@ -1,3 +1,4 @@
+pub mod CellRef
 pub mod RowMap
 pub mod Columns
 pub mod Fits

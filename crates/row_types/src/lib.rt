@@ -3,17 +3,19 @@
 //! | Module | What it has |
 //! |---|---|
 //! | `column`, `columns` | a column, and the columns of a table |
-//! | `cell`, `row` | a cell, and rows |
+//! | `cell`, `cell_ref`, `row` | a cell, one that borrows its text, and rows |
 //! | `row_map` | rows by their ids |
 #![tactic(auto)]
 
 mod cell;
+mod cell_ref;
 mod column;
 mod columns;
 mod row;
 mod row_map;
 
 pub use cell::{Cell, Cells};
+pub use cell_ref::CellRef;
 pub use column::{Column, Kind};
 pub use columns::{Columns, ColumnsRefusal};
 pub use row::{CellRows, Row, RowList, StoredRow, StoredRows, Unnamed};

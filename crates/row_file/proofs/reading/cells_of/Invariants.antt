@@ -1,5 +1,5 @@
 use Rattle.std.proofs.Common.{◌≡◌, map, take}
-use Rattle.row_file.specs.Cell.{lent_cell}
+use Rattle.row_types.specs.CellRef.{lent_cell}
 use Rattle.row_file.proofs.reading.cells_of.Given as goal
 
 abbrev pub invariant-loop-cell : goal.invariant-loop-cell

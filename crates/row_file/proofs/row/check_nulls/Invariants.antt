@@ -1,5 +1,5 @@
 use Rattle.std.proofs.Common.{◌≡◌, map, drop}
-use Rattle.row_file.specs.Cell.{lent_cell}
+use Rattle.row_types.specs.CellRef.{lent_cell}
 use Rattle.row_file.specs.Row.{check_nulls}
 use Rattle.row_file.proofs.row.check_nulls.Given as goal
 

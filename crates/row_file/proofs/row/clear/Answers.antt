@@ -1,5 +1,5 @@
 use Rattle.std.proofs.Common.{map, ap, ◌∙◌}
-use Rattle.row_file.specs.Cell.{lent_cell}
+use Rattle.row_types.specs.CellRef.{lent_cell}
 use Rattle.row_file.proofs.RowLemmas.{nulls_lent}
 use Rattle.row_file.proofs.row.clear.Goals as goal
 

@@ -1,5 +1,5 @@
 use Rattle.std.proofs.lemmas.Result.{err_from_is_err_and}
-use Rattle.row_file.specs.Cell.{lent_cell}
+use Rattle.row_types.specs.CellRef.{lent_cell}
 use Rattle.row_file.specs.Checked.{lent_row}
 use Rattle.row_file.proofs.StepLemmas.{cell_refused, cell_taken}
 use Rattle.row_file.proofs.row.take_step.Goals as goal

@@ -1,14 +1,13 @@
-//! Cells that are lent from the bytes of a file.
+//! A cell that borrows its text or its bytes.
 
 ghost use Rattle.std.specs.Prelude.{◌≡◌, IfOk};
-ghost use Rattle.row_file.specs.Cell.{lent_cell};
-ghost use Rattle.row_file.specs.Row.{is_null as null_cell, number_of};
+ghost use Rattle.row_types.specs.CellRef.{lent_cell, is_null as null_cell, number_of};
 
+use crate::cell::Cell;
 use avro_wire::{Bytes, Text};
-use row_types::Cell;
 use std::alloc::{AllocError, Global};
 
-/// What stands in one column of a row: a `Cell` whose text or bytes are lent from the file.
+/// What stands in one column of a row: a `Cell` whose text or bytes are borrowed.
 #[derive(Clone, Copy)]
 pub enum CellRef<'a> {
     Null,
