@@ -24,5 +24,5 @@ mod writing;
 pub use container::{Block, Blocks, Container, Meta, bound_to};
 pub use reading::read;
 pub use refusal::ContainerRefusal;
-pub use walk::{Walk, open_walk, reads_agree};
+pub use walk::{Walk, open_walk, reading_agrees};
 pub use writing::write;

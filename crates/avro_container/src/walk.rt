@@ -118,7 +118,7 @@ pub fn open_walk(alloc: Global, input: &[u8]) -> Result<Walk<'_>, ContainerRefus
 
 /// A law and no code: what the bytes read as is the container whose file they are, and a container
 /// whose file is within the limit is what its file reads as.
-pub fn reads_agree()
+pub fn reading_agrees()
     ensures found { (input : List ℕ) (container : Container)
         → container_at input ≡ Ok container → IsContainer input container }
     ensures only { (input : List ℕ) (container : Container) → IsContainer input container
