@@ -6,8 +6,8 @@ use Rattle.std.proofs.lemmas.List.{append-nil, drop_more, drop_all}
 use Rattle.hex.specs.Hex.{encode_lower, encode_with}
 use Rattle.row_types.specs.declared.row.Row.{Row}
 use Rattle.row_pred.specs.Cells.{spaced_text}
-use Rattle.row_file.specs.declared.cell.CellRef.{CellRef}
-use Rattle.row_file.specs.Cell.{lent_cell}
+use Rattle.row_reading.specs.declared.cell.CellRef.{CellRef}
+use Rattle.row_reading.specs.Cell.{lent_cell}
 use Rattle.lineage_cli.specs.Output.{AppendsFront}
 use Rattle.lineage_cli.specs.Text.{row_line, lines}
 use Rattle.lineage_cli.proofs.OutputLemmas.{appends_none, appends_then, begins_then, begins_more}

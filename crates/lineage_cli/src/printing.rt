@@ -10,14 +10,14 @@ ghost use Rattle.pieces.specs.Literal.{escape as escape_of, literal_text};
 ghost use Rattle.pieces.specs.HexLiteral.{hex_text};
 ghost use Rattle.row_pred.specs.Cell.{cell_text};
 ghost use Rattle.row_pred.specs.Cells.{spaced_text, cells_text};
-ghost use Rattle.row_file.specs.Cell.{lent_cell};
+ghost use Rattle.row_reading.specs.Cell.{lent_cell};
 ghost use Rattle.lineage_cli.specs.Output.{Puts, Shows};
 ghost use Rattle.lineage_cli.specs.Text.{spaced, row_line, lines};
 
 use crate::output::{flush, put};
 use itoa::Buffer;
 use lt_port::{PortError, Sink};
-use row_file::{CellRef, CheckedRows};
+use row_reading::{CellRef, CheckedRows};
 use std::alloc::Global;
 
 /// The digits of bytes, by their values.

@@ -3,7 +3,7 @@ use Rattle.std.specs.List.{flat_map}
 use Rattle.std.proofs.lemmas.Result.{err_from_is_err_and}
 use Rattle.row_pred.specs.Cell.{cell_text}
 use Rattle.row_pred.specs.Cells.{spaced_text}
-use Rattle.row_file.specs.Cell.{lent_cell}
+use Rattle.row_reading.specs.Cell.{lent_cell}
 use Rattle.lineage_cli.proofs.OutputLemmas.{begins_more}
 use Rattle.lineage_cli.proofs.printing.put_cells.Goals as goal
 

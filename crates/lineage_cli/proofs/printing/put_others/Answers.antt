@@ -2,7 +2,7 @@ use Rattle.std.proofs.Common.{◌+◌, drop, map, arith}
 use Rattle.std.specs.List.{flat_map}
 use Rattle.std.proofs.lemmas.Result.{err_from_is_err_and}
 use Rattle.row_pred.specs.Cells.{spaced_text}
-use Rattle.row_file.specs.Cell.{lent_cell}
+use Rattle.row_reading.specs.Cell.{lent_cell}
 use Rattle.lineage_cli.proofs.PrintLemmas.{begun_more, begun_stops, cells_next}
 use Rattle.lineage_cli.proofs.printing.put_others.Goals as goal
 

@@ -1,7 +1,7 @@
 use Rattle.std.proofs.Common.{◌≤◌, drop, map}
 use Rattle.std.specs.List.{flat_map}
 use Rattle.row_pred.specs.Cells.{spaced_text}
-use Rattle.row_file.specs.Cell.{lent_cell}
+use Rattle.row_reading.specs.Cell.{lent_cell}
 use Rattle.lineage_cli.specs.Output.{shown}
 use Rattle.lineage_cli.proofs.PrintLemmas.{IsBegun}
 use Rattle.lineage_cli.proofs.printing.put_others.Given as goal
