@@ -67,7 +67,8 @@ field_reads : (room : ℕ) (before : List Field) (seen : Seen) (members : Member
     → id_at (codes "field-id") members ≡ Ok id → text_at (codes "name") members ≡ Ok name → has_field before name ≡ false → get_member (codes "type") members ≡ Some value → schema_at room [] seen value ≡ Ok (schema, done)
     → field_at (schema_at room []) before seen (object members) ≡ Ok (roll-Field (record { name = name; id = id; schema = schema }), done)
 field_reads room before seen members id name value schema done id_is name_is new value_is read =
-    ap (λ read. read >>= λ id. text_at (codes "name") members >>= λ text. new_field_name before text >>= λ name. needed (codes "type") members >>= λ value. under (codes "type") (schema_at room [] seen value) >>= λ schema. Ok (roll-Field (record { name = name; id = id; schema = schema.0 }), schema.1)) id_is
+    ap (λ read. read >>= λ id. text_at (codes "name") members >>= λ text. new_field_name before text >>= λ name. needed (codes "type") members >>= λ value.
+    under (codes "type") (schema_at room [] seen value) >>= λ schema. Ok (roll-Field (record { name = name; id = id; schema = schema.0 }), schema.1)) id_is
     ∙ ap (λ read. read >>= λ text. new_field_name before text >>= λ name. needed (codes "type") members >>= λ value. under (codes "type") (schema_at room [] seen value) >>= λ schema. Ok (roll-Field (record { name = name; id = id; schema = schema.0 }), schema.1)) name_is
     ∙ ap (λ read. read >>= λ name. needed (codes "type") members >>= λ value. under (codes "type") (schema_at room [] seen value) >>= λ schema. Ok (roll-Field (record { name = name; id = id; schema = schema.0 }), schema.1)) (new_name before name new)
     ∙ ap (λ found. or_form (codes "type") found >>= λ value. under (codes "type") (schema_at room [] seen value) >>= λ schema. Ok (roll-Field (record { name = name; id = id; schema = schema.0 }), schema.1)) value_is
@@ -156,7 +157,8 @@ module _ (field : Field) (fields : List Field) (k : Known (field_schema field) (
       record {
         after = rest.after;
         is = fields_step room place before seen (object own_members) (values_of more.values) field one.after fields rest.after
-            (field_reads room before seen own_members (out-Field field).id own_name k.value (field_schema field) one.after (field_id own_name k.value own_first (out-Field field).id fits) (field_name own_name k.value own_first (out-Field field).id) news.0 (field_type own_name k.value own_first (out-Field field).id) one.is
+            (field_reads room before seen own_members (out-Field field).id own_name k.value (field_schema field) one.after (field_id own_name k.value own_first (out-Field field).id fits)
+            (field_name own_name k.value own_first (out-Field field).id) news.0 (field_type own_name k.value own_first (out-Field field).id) one.is
             ∙ ap (λ field. Ok (field, one.after)) (roll-out-Field field))
             rest.is;
         count = omega (arith, total, one.count, rest.count);

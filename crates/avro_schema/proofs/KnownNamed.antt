@@ -121,7 +121,8 @@ enum_members name symbols = put (codes "symbols") (array (texts_items symbols)) 
 enum_reads : (name : List ℕ) (symbols : List (List ℕ)) (after : Seen) → is_taken after.names name ≡ false
     → enum_at [] after (enum_members name symbols) ≡ Ok (schemas.Enum name symbols, defined after name (schemas.Enum name symbols))
 enum_reads name symbols after free =
-    ap (λ read. read >>= λ name. list_at (codes "symbols") (enum_members name symbols) >>= λ values. under (codes "symbols") (texts_at 1 [] values) >>= λ symbols. Ok (schemas.Enum name symbols, defined after name (schemas.Enum name symbols))) (named after (enum_members name symbols) name refl refl free)
+    ap (λ read. read >>= λ name. list_at (codes "symbols") (enum_members name symbols) >>= λ values. under (codes "symbols") (texts_at 1 [] values) >>= λ symbols. Ok (schemas.Enum name symbols, defined after name (schemas.Enum name symbols)))
+    (named after (enum_members name symbols) name refl refl free)
     ∙ ap (λ read. under (codes "symbols") read >>= λ symbols. Ok (schemas.Enum name symbols, defined after name (schemas.Enum name symbols))) (texts_read 1 [] symbols)
 
 module _ (name : List ℕ) (symbols : List (List ℕ)) where

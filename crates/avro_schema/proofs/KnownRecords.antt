@@ -36,7 +36,8 @@ record_reads : (room : ℕ) (after : Seen) (name : List ℕ) (values : Items) (f
     → fields_at (schema_at room []) 1 [] (begun after name) (values_of values) ≡ Ok (fields, done)
     → record_at (schema_at room) [] after (record_members name values) ≡ Ok (schemas.Rec name fields, defined done name (schemas.Rec name fields))
 record_reads room after name values fields done plain free read =
-    ap (λ read. read >>= λ name. under (codes "fields") (fields_at (schema_at room (namespace_of name)) 1 [] (begun after name) (values_of values)) >>= λ fields. Ok (schemas.Rec name fields.0, defined fields.1 name (schemas.Rec name fields.0))) (named after (record_members name values) name refl refl free)
+    ap (λ read. read >>= λ name. under (codes "fields") (fields_at (schema_at room (namespace_of name)) 1 [] (begun after name) (values_of values)) >>= λ fields. Ok (schemas.Rec name fields.0, defined fields.1 name (schemas.Rec name fields.0)))
+    (named after (record_members name values) name refl refl free)
     ∙ ap (λ scope. under (codes "fields") (fields_at (schema_at room scope) 1 [] (begun after name) (values_of values)) >>= λ fields. Ok (schemas.Rec name fields.0, defined fields.1 name (schemas.Rec name fields.0))) plain
     ∙ ap (λ read. under (codes "fields") read >>= λ fields. Ok (schemas.Rec name fields.0, defined fields.1 name (schemas.Rec name fields.0))) read
 

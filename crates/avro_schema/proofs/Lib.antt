@@ -1,8 +1,6 @@
 pub mod SeenLaws
 pub mod NameLaws
-pub mod MemberLaws
 pub mod ItemLaws
-pub mod PartLaws
 pub mod TextLaws
 mod Puts
 mod TakenLaws
@@ -18,7 +16,9 @@ mod KnownFields
 mod KnownRecords
 mod PrintedAgain
 pub mod Steps
+pub mod MemberLaws
 pub mod PrimitiveLaws
+pub mod PartLaws
 pub mod MeansPart
 pub mod Found
 pub mod FoundBranches
@@ -30,4 +30,5 @@ pub mod OnlyBranches
 pub mod OnlyFields
 pub mod OnlyObject
 pub mod MeansOnly
+pub mod TextMeaning
 pub mod MeansText

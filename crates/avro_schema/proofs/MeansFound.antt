@@ -12,9 +12,12 @@ layer_found : (room : ℕ) (schema_in : Reader) → Finds 1 room schema_in → F
 layer_found room schema_in finds scope seen null taken read = absurd cc
 layer_found room schema_in finds scope seen (boolean flag) taken read = absurd cc
 layer_found room schema_in finds scope seen (number num) taken read = absurd cc
-layer_found room schema_in finds scope seen (string word) taken read = word_found room scope word seen (primitive_of word) taken refl read
-layer_found room schema_in finds scope seen (array items) taken read = union_found room schema_in finds scope seen items taken read
-layer_found room schema_in finds scope seen (object pairs) taken read = object_found room schema_in finds scope seen pairs taken read
+layer_found room schema_in finds scope seen (string word) taken read =
+    word_found room scope word seen (primitive_of word) taken refl read
+layer_found room schema_in finds scope seen (array items) taken read =
+    union_found room schema_in finds scope seen items taken read
+layer_found room schema_in finds scope seen (object pairs) taken read =
+    object_found room schema_in finds scope seen pairs taken read
 
 -- a schema in one stands one level below it
 one_below : (room : ℕ) (schema_in : Reader) → Finds 0 room schema_in → Finds 1 (suc room) schema_in

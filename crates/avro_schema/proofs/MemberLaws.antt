@@ -1,20 +1,9 @@
--- The members of a map, and what a value is, in the words of a schema's members.
-use Rattle.std.proofs.Common.{◌≡◌, ℕ, List, [], ◌∷◌, Bor, Option, Some, option_map, refl, sym, ap, ◌∙◌}
-use Rattle.std.specs.Option.{option_copied}
-use Rattle.std.specs.BTreeMap.{BTreeMap, get_by_text}
-use Rattle.std.specs.Prelude.{String}
-use Rattle.std.specs.declared.alloc.Global.{Global}
+-- The items of a list, in the words of a schema's members.
+use Rattle.std.proofs.Common.{◌≡◌, List, [], ◌∷◌, Some, option_map, refl, sym, ap, ◌∙◌}
 use Rattle.serde_json.specs.Data.{Data, null, boolean, number, string, array, object}
-use Rattle.serde_json.specs.Find.{get_member, as_array}
-use Rattle.serde_json.specs.View.{view, items_of, members_view}
-use Rattle.serde_json.specs.declared.value.Value.{Value}
-use Rattle.serde_json.proofs.Views.{view-lookup, view_of_ref}
+use Rattle.serde_json.specs.Find.{as_array}
+use Rattle.serde_json.specs.View.{items_of}
 use Rattle.avro_schema.specs.Member.{list_of, values_of}
-
--- what is found in a map is the member of its object
-pub found_member : (members : BTreeMap (String Global) Value) (key : List ℕ) (found : Option (Bor Value)) → option_copied found ≡ get_by_text members key
-    → option_map (λ value. view value.now) found ≡ get_member key (members_view members.entries)
-found_member members key found is = view_of_ref found ∙ ap (option_map view) is ∙ view-lookup key members.entries
 
 -- the values of a list of data
 pub values_of-items_of : (values : List Data) → values_of (items_of values) ≡ values
@@ -31,5 +20,7 @@ list_is (array items) = refl
 list_is (object pairs) = refl
 
 -- the items of an array are the list that it is
-pub list_found : (value : Data) (values : List Data) → Some (items_of values) ≡ as_array value → Some values ≡ list_of value
-list_found value values is = sym (list_is value ∙ ap (option_map values_of) (sym is) ∙ ap Some (values_of-items_of values))
+pub list_found : (value : Data) (values : List Data) → Some (items_of values) ≡ as_array value
+    → Some values ≡ list_of value
+list_found value values is =
+    sym (list_is value ∙ ap (option_map values_of) (sym is) ∙ ap Some (values_of-items_of values))

@@ -22,12 +22,14 @@ unfolding schema_below
 below_layer levels room is = ap schema_below is ∙ schema_layer room
 
 -- with no level left none may
-pub below_none : (levels : ℕ) (scope : List ℕ) (seen : Seen) (value : Data) → levels ≡ 0 → schema_below levels scope seen value ≡ Err Nesting
+pub below_none : (levels : ℕ) (scope : List ℕ) (seen : Seen) (value : Data) → levels ≡ 0
+    → schema_below levels scope seen value ≡ Err Nesting
 unfolding schema_below
 below_none levels scope seen value is = ap (λ (n : ℕ). schema_below n scope seen value) is
 
 -- an array is read as the union of its items
-pub layer_array : (schema_in : Reader) (room : ℕ) (scope : List ℕ) (seen : Seen) (value : Value) (values : Vec Value Global) (items : List Value) → value ≡ Array values → items ≡ values.items
+pub layer_array : (schema_in : Reader) (room : ℕ) (scope : List ℕ) (seen : Seen) (value : Value)
+    (values : Vec Value Global) (items : List Value) → value ≡ Array values → items ≡ values.items
     → layer_at schema_in room scope seen (view value) ≡ union_at schema_in scope room seen (map view items)
 layer_array schema_in room scope seen value values items is same =
     ap (λ (v : Value). layer_at schema_in room scope seen (view v)) is

@@ -5,7 +5,17 @@ use Rattle.serde_json.specs.Data.{Members}
 use Rattle.schema_tree.specs.declared.schema.Logical.TheVariants.{Plain}
 use Rattle.schema_tree.specs.declared.schema.Schema.{Schema}
 use Rattle.schema_tree.specs.declared.schema.Schema.TheVariants as schemas
-use Rattle.schema_tree.specs.TreeLaws.{IsAlone, alone-Null, alone-Boolean, alone-Int, alone-Long, alone-Float, alone-Double, alone-Raw, alone-Str}
+use Rattle.schema_tree.specs.TreeLaws.{
+  IsAlone,
+  alone-Null,
+  alone-Boolean,
+  alone-Int,
+  alone-Long,
+  alone-Float,
+  alone-Double,
+  alone-Raw,
+  alone-Str,
+}
 use Rattle.avro_schema.specs.Reading.{primitive_of, logical_of, logical_int, logical_long}
 
 -- what is there is alone
@@ -19,7 +29,8 @@ either P true x y p q = p
 either P false x y p q = q
 
 -- a schema, or what is behind it
-either_primitive : (b : Bool) (x : Schema) (y : Option Schema) → IsAlone x → AloneIfThere y → AloneIfThere (if b then Some x else y)
+either_primitive : (b : Bool) (x : Schema) (y : Option Schema) → IsAlone x → AloneIfThere y
+    → AloneIfThere (if b then Some x else y)
 either_primitive b x y p q = either AloneIfThere b (Some x) y p q
 
 -- whatever the word names
@@ -39,7 +50,9 @@ pub alone_primitive : (word : List ℕ) (schema : Schema) → primitive_of word 
 alone_primitive word schema is = subst AloneIfThere is (alone_if_primitive word)
 
 -- and so it does, whatever else is said of it
-pub alone_logical : (word : List ℕ) (members : Members) (schema : Schema) → IsAlone schema → IsAlone (logical_of word members schema)
+pub alone_logical : (word : List ℕ) (members : Members) (schema : Schema) → IsAlone schema
+    → IsAlone (logical_of word members schema)
 alone_logical word members schema alone =
     either IsAlone (bytes_eq word (codes "int")) (schemas.Int (logical_int members)) _ (alone-Int (logical_int members))
-    (either IsAlone (bytes_eq word (codes "long")) (schemas.Long (logical_long members)) schema (alone-Long (logical_long members)) alone)
+    (either IsAlone (bytes_eq word (codes "long")) (schemas.Long (logical_long members)) schema
+    (alone-Long (logical_long members)) alone)

@@ -1,6 +1,6 @@
 -- The text of a schema is read as the schema.
 use Rattle.std.specs.List.{list_any}
-use Rattle.std.proofs.Common.{◌≡◌, ℕ, ◌≤◌, ◌∷◌, true, false, List, [], Some, Ok, Err, option_and_then, if◌then◌else◌, refl, sym, ap, ◌∙◌, arith, append-nil}
+use Rattle.std.proofs.Common.{◌≡◌, ℕ, ◌≤◌, ◌∷◌, true, false, List, [], Some, Ok, option_and_then, refl, sym, ap, ◌∙◌, arith, append-nil}
 use Rattle.std.proofs.lemmas.Str.{is_utf8-from_IsUtf8}
 use Rattle.std.specs.Str.{IsUtf8}
 use Rattle.json.specs.Print.{print}
@@ -11,11 +11,11 @@ use Rattle.json.proofs.Printed.Trees.{value-json_tokens, ArePrintable-json_token
 use Rattle.serde_json.specs.Read.{read, of_json, max_depth}
 use Rattle.words.specs.Reading.{map_value}
 use Rattle.schema_tree.specs.declared.schema.Schema.{Schema}
-use Rattle.avro_schema.specs.declared.refusal.SchemaRefusal.TheVariants.{NotJson}
 use Rattle.avro_schema.specs.Printing.{schema_text}
 use Rattle.avro_schema.specs.Printable.{spelled, IsPrintable}
 use Rattle.schema_tree.specs.Ids.{has_ids}
 use Rattle.avro_schema.specs.Defined.{nothing_seen, is_taken}
+use Rattle.json_members.specs.ParseLaws.{value_of_json}
 use Rattle.avro_schema.specs.Reading.{schema_of, schema_of_json}
 use Rattle.schema_tree.specs.Inductions.{every}
 use Rattle.avro_schema.proofs.Known.{IsKnown}
@@ -61,8 +61,8 @@ schema_again schema printable fits utf8 =
     let done = k.reads 64 nothing_seen printable.depth (omega (arith, printable.size)) printable.once (none_taken (spelled schema).names) in
     let value_is : read (schema_text schema) ≡ Some k.value =
     ap (λ tokens. read (print tokens)) k.tokens ∙ json_again k.text k.numbers (omega (arith, k.levels, printable.levels)) ∙ k.data_is in
-    ap (λ right. if right then schema_of_json (read (schema_text schema)) else Err NotJson) (is_utf8-from_IsUtf8 (schema_text schema) utf8)
-    ∙ ap schema_of_json value_is
+    let right = is_utf8-from_IsUtf8 (schema_text schema) utf8 in
+    ap schema_of_json (value_of_json (schema_text schema) k.value right value_is)
     ∙ ap (map_value (λ read. read.0)) done.is
   where
     none_taken : (names : List (List ℕ)) → list_any (λ name. is_taken [] name) names ≡ false

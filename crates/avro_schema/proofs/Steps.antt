@@ -1,35 +1,32 @@
 -- Readers that did not refuse: what their steps answered.
-use Rattle.std.proofs.Common.{◌≡◌, ℕ, ◌+◌, ◌≤◌, Bool, true, false, ◌||◌, if◌then◌else◌, nat_lt, List, Option, Some, None, Result, Ok, Err, refl, ap, ◌∙◌}
+use Rattle.std.proofs.Common.{
+  ◌≡◌,
+  ℕ,
+  ◌+◌,
+  ◌≤◌,
+  Bool,
+  true,
+  false,
+  ◌||◌,
+  if◌then◌else◌,
+  nat_lt,
+  List,
+  Option,
+  Some,
+  None,
+  Result,
+  Ok,
+  Err,
+  refl,
+}
 use Rattle.std.proofs.lemmas.Bool.{ltb-false, le-ltb}
-use Rattle.words.specs.Reading.{◌>>=◌, map_value}
+use Rattle.words.specs.Steps.{ok_is}
 use Rattle.avro_schema.specs.declared.refusal.SchemaRefusal.{SchemaRefusal}
 use Rattle.avro_schema.specs.declared.refusal.SchemaRefusal.TheVariants.{Nesting}
 use Rattle.avro_schema.specs.Refusal.{under}
 use Rattle.avro_schema.specs.Member.{or_form}
 use Rattle.avro_schema.specs.Defined.{Definitions, Seen}
 use Rattle.avro_schema.specs.Reading.{counted}
-
--- it is read
-abbrev pub read_as : {A : Type 0} → A → Result A SchemaRefusal
-read_as x = Ok x
-
--- the value of what is read
-pub ok_is : {A : Type 0} (x y : A) → read_as x ≡ read_as y → x ≡ y
-ok_is x y e = cc
-
--- what follows of both steps follows of the whole
-pub bind_then : {A B P : Type 0} (r : Result A SchemaRefusal) (f : A → Result B SchemaRefusal) (y : B) → (r >>= f) ≡ Ok y → ((x : A) → r ≡ Ok x → f x ≡ Ok y → P) → P
-bind_then (Ok x) f y e go = go x refl e
-bind_then (Err d) f y e go = absurd cc
-
--- a step that is read, and what the next one answers
-pub bind_only : {A B : Type 0} (r : Result A SchemaRefusal) (f : A → Result B SchemaRefusal) (x : A) (y : Result B SchemaRefusal) → r ≡ Ok x → f x ≡ y → (r >>= f) ≡ y
-bind_only r f x y is rest = ap (λ s. s >>= f) is ∙ rest
-
--- what follows of what is read follows of what is seen of it
-pub map_then : {A B P : Type 0} (view : A → B) (r : Result A SchemaRefusal) (y : B) → map_value view r ≡ Ok y → ((x : A) → r ≡ Ok x → view x ≡ y → P) → P
-map_then view (Ok x) y e go = go x refl (ok_is (view x) y e)
-map_then view (Err d) y e go = absurd cc
 
 -- what is read of a piece is read
 pub under_ok : {A : Type 0} (piece : List ℕ) (r : Result A SchemaRefusal) (x : A) → under piece r ≡ Ok x → r ≡ Ok x
@@ -52,32 +49,28 @@ abbrev pub more : Seen → ℕ → Seen
 more seen many = record { names = seen.names; count = seen.count + many }
 
 -- two tests that refuse, and neither does
-passed : {A P : Type 0} (a b : Bool) (x : Result A SchemaRefusal) (y : A) → (if a || b then Err Nesting else x) ≡ Ok y → (a ≡ false → b ≡ false → x ≡ Ok y → P) → P
+passed : {A P : Type 0} (a b : Bool) (x : Result A SchemaRefusal) (y : A) → (if a || b then Err Nesting else x) ≡ Ok y
+    → (a ≡ false → b ≡ false → x ≡ Ok y → P) → P
 passed true b x y e go = absurd cc
 passed false true x y e go = absurd cc
 passed false false x y e go = go refl refl e
 
 -- what is counted fits
-pub count_then : {P : Type 0} (room levels many : ℕ) (seen after : Seen) → counted room levels many seen ≡ Ok after → (levels ≤ room → seen.count + many ≤ 65536 → more seen many ≡ after → P) → P
+pub count_then : {P : Type 0} (room levels many : ℕ) (seen after : Seen) → counted room levels many seen ≡ Ok after
+    → (levels ≤ room → seen.count + many ≤ 65536 → more seen many ≡ after → P) → P
 count_then room levels many seen after e go =
     passed (nat_lt room levels) (nat_lt 65536 (seen.count + many)) (Ok (more seen many)) after e (λ deep large is.
     go (ltb-false room levels deep) (ltb-false 65536 (seen.count + many) large) (ok_is (more seen many) after is))
 
 -- what fits is counted
-pub count_only : (room levels many : ℕ) (seen : Seen) → levels ≤ room → seen.count + many ≤ 65536 → counted room levels many seen ≡ Ok (more seen many)
-count_only room levels many seen deep large = both (nat_lt room levels) (nat_lt 65536 (seen.count + many)) (le-ltb room levels deep) (le-ltb 65536 (seen.count + many) large)
+pub count_only : (room levels many : ℕ) (seen : Seen) → levels ≤ room → seen.count + many ≤ 65536
+    → counted room levels many seen ≡ Ok (more seen many)
+count_only room levels many seen deep large =
+    both (nat_lt room levels) (nat_lt 65536 (seen.count + many)) (le-ltb room levels deep)
+    (le-ltb 65536 (seen.count + many) large)
   where
-    both : (a b : Bool) → a ≡ false → b ≡ false → (if a || b then Err Nesting else Ok (more seen many)) ≡ Ok (more seen many)
+    both : (a b : Bool) → a ≡ false → b ≡ false
+        → (if a || b then Err Nesting else Ok (more seen many)) ≡ Ok (more seen many)
     both true b e f = absurd cc
     both false true e f = absurd cc
     both false false e f = refl
-
--- a test that did not refuse
-pub test_then : {A P : Type 0} (b : Bool) (refusal : SchemaRefusal) (r : Result A SchemaRefusal) (y : A) → (if b then Err refusal else r) ≡ Ok y → (b ≡ false → r ≡ Ok y → P) → P
-test_then true refusal r y e go = absurd cc
-test_then false refusal r y e go = go refl e
-
--- a test, and what was chosen by it
-pub either_then : {A P : Type 0} (b : Bool) (x y z : A) → (if b then x else y) ≡ z → (b ≡ true → x ≡ z → P) → (y ≡ z → P) → P
-either_then true x y z e one other = one refl e
-either_then false x y z e one other = other e

@@ -54,30 +54,38 @@ mutual
         → HasType members word
         → primitive_of word ≡ Some schema
         → Means scope names (object members) (logical_of word members schema) names
-    record_type : (scope : List ℕ) (names : Definitions) (members : Members) (name : List ℕ) (values : List Data) (fields : List Field) (inside : Definitions)
+    record_type : (scope : List ℕ) (names : Definitions) (members : Members) (name : List ℕ) (values : List Data)
+        (fields : List Field) (inside : Definitions)
         → HasType members (codes "record")
         → Defines scope names members name
         → list_at (codes "fields") members ≡ Ok values
         → AreFields (namespace_of name) (with_name names name None) [] values fields inside
-        → Means scope names (object members) (schemas.Rec name fields) (with_name inside name (Some (schemas.Rec name fields)))
-    enum_type : (scope : List ℕ) (names : Definitions) (members : Members) (name : List ℕ) (values : List Data) (symbols : List (List ℕ))
+        → Means scope names (object members) (schemas.Rec name fields)
+        (with_name inside name (Some (schemas.Rec name fields)))
+    enum_type : (scope : List ℕ) (names : Definitions) (members : Members) (name : List ℕ) (values : List Data)
+        (symbols : List (List ℕ))
         → HasType members (codes "enum")
         → Defines scope names members name
         → list_at (codes "symbols") members ≡ Ok values
         → AreTexts values symbols
-        → Means scope names (object members) (schemas.Enum name symbols) (with_name names name (Some (schemas.Enum name symbols)))
+        → Means scope names (object members) (schemas.Enum name symbols)
+        (with_name names name (Some (schemas.Enum name symbols)))
     fixed_type : (scope : List ℕ) (names : Definitions) (members : Members) (name : List ℕ) (bytes : ℕ)
         → HasType members (codes "fixed")
         → Defines scope names members name
         → fixed_size_at (codes "size") members ≡ Ok bytes
-        → Means scope names (object members) (schemas.Fixed name bytes) (with_name names name (Some (schemas.Fixed name bytes)))
-    array_type : (scope : List ℕ) (names : Definitions) (members : Members) (id : Option ℤ) (value : Data) (items : Schema) (after : Definitions)
+        → Means scope names (object members) (schemas.Fixed name bytes)
+        (with_name names name (Some (schemas.Fixed name bytes)))
+    array_type : (scope : List ℕ) (names : Definitions) (members : Members) (id : Option ℤ) (value : Data)
+        (items : Schema) (after : Definitions)
         → HasType members (codes "array")
         → id_at (codes "element-id") members ≡ Ok id
         → get_member (codes "items") members ≡ Some value
         → Means scope names value items after
-        → Means scope names (object members) (schemas.Array items id (is_text (get_member (codes "logicalType") members) (codes "map"))) after
-    map_type : (scope : List ℕ) (names : Definitions) (members : Members) (key_id value_id : Option ℤ) (value : Data) (values : Schema) (after : Definitions)
+        → Means scope names (object members)
+        (schemas.Array items id (is_text (get_member (codes "logicalType") members) (codes "map"))) after
+    map_type : (scope : List ℕ) (names : Definitions) (members : Members) (key_id value_id : Option ℤ) (value : Data)
+        (values : Schema) (after : Definitions)
         → HasType members (codes "map")
         → id_at (codes "key-id") members ≡ Ok key_id
         → id_at (codes "value-id") members ≡ Ok value_id
@@ -88,7 +96,8 @@ mutual
   -- the values are the branches of a union, none of them a union; each is met where those before it were
   pub data AreBranches : List ℕ → Definitions → List Data → List Schema → Definitions → Type 0 where
     no_branch : (scope : List ℕ) (names : Definitions) → AreBranches scope names [] [] names
-    branch : (scope : List ℕ) (names : Definitions) (value : Data) (values : List Data) (schema : Schema) (branches : List Schema) (between after : Definitions)
+    branch : (scope : List ℕ) (names : Definitions) (value : Data) (values : List Data) (schema : Schema)
+        (branches : List Schema) (between after : Definitions)
         → IsNoUnion value
         → Means scope names value schema between
         → AreBranches scope between values branches after
@@ -96,14 +105,18 @@ mutual
 
   -- the values are fields behind others, no two of one name; each is met where those before it were
   pub data AreFields : List ℕ → Definitions → List Field → List Data → List Field → Definitions → Type 0 where
-    no_field : (scope : List ℕ) (names : Definitions) (before : List Field) → AreFields scope names before [] before names
-    field : (scope : List ℕ) (names : Definitions) (before : List Field) (members : Members) (values : List Data) (id : Option ℤ) (name : List ℕ) (value : Data) (schema : Schema) (fields : List Field) (between after : Definitions)
+    no_field : (scope : List ℕ) (names : Definitions) (before : List Field)
+        → AreFields scope names before [] before names
+    field : (scope : List ℕ) (names : Definitions) (before : List Field) (members : Members) (values : List Data)
+        (id : Option ℤ) (name : List ℕ) (value : Data) (schema : Schema) (fields : List Field)
+        (between after : Definitions)
         → id_at (codes "field-id") members ≡ Ok id
         → text_at (codes "name") members ≡ Ok name
         → has_field before name ≡ false
         → get_member (codes "type") members ≡ Some value
         → Means scope names value schema between
-        → AreFields scope between (before ++ roll-Field (record { name = name; id = id; schema = schema }) ∷ []) values fields after
+        → AreFields scope between (before ++ roll-Field (record { name = name; id = id; schema = schema }) ∷ [])
+        values fields after
         → AreFields scope names before (object members ∷ values) fields after
 
 -- the value is the schema, which is neither deeper nor larger than is read

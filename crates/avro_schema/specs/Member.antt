@@ -1,9 +1,42 @@
--- What the members of a JSON object are, as far as a schema needs them: each by its name, with the refusal of one that has no form.
-use Rattle.std.specs.Prelude.{ℕ, ◌^◌, ◌-◌, ℤ, pos, negsuc, int_lt, nat_lt, Bool, false, List, [], ◌∷◌, Option, Some, None, Result, Ok, Err, if◌then◌else◌}
+-- The members of a JSON object that a schema needs: each by its name, with the refusal of one that has no form.
+use Rattle.std.specs.Prelude.{
+  ℕ,
+  ℤ,
+  nat_lt,
+  Bool,
+  false,
+  List,
+  [],
+  ◌∷◌,
+  Option,
+  Some,
+  None,
+  Result,
+  Ok,
+  Err,
+  if◌then◌else◌,
+}
 use Rattle.std.specs.Str.{bytes_eq}
 use Rattle.words.specs.Reading.{map_value}
-use Rattle.serde_json.specs.Data.{Num, unsigned, negative, float, Data, null, boolean, number, string, array, object, Items, no_items, item, Members}
+use Rattle.serde_json.specs.Data.{
+  Num,
+  unsigned,
+  negative,
+  float,
+  Data,
+  null,
+  boolean,
+  number,
+  string,
+  array,
+  object,
+  Items,
+  no_items,
+  item,
+  Members,
+}
 use Rattle.serde_json.specs.Find.{get_member}
+use Rattle.json_members.specs.Form.{int_of}
 use Rattle.avro_schema.specs.declared.refusal.SchemaRefusal.{SchemaRefusal}
 use Rattle.avro_schema.specs.declared.refusal.SchemaRefusal.TheVariants.{Form}
 
@@ -36,20 +69,6 @@ list_of (number num) = None
 list_of (string text) = None
 list_of (array items) = Some (values_of items)
 list_of (object pairs) = None
-
--- a whole number of 32 bits
-abbrev pub int_of_number : Num → Option ℤ
-int_of_number (unsigned n) = if nat_lt n (2 ^ 31) then Some (pos n) else None
-int_of_number (negative z) = if int_lt z (negsuc (2 ^ 31 - 1)) then None else (if int_lt z (pos (2 ^ 31)) then Some z else None)
-int_of_number (float f) = None
-
-abbrev pub int_of : Data → Option ℤ
-int_of null = None
-int_of (boolean flag) = None
-int_of (number num) = int_of_number num
-int_of (string text) = None
-int_of (array items) = None
-int_of (object pairs) = None
 
 -- a size of a fixed: a whole number up to 1,048,576
 abbrev pub size_of_number : Num → Option ℕ

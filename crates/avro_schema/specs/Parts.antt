@@ -1,13 +1,10 @@
 -- Parts of the reading of a schema, as the code takes them.
-use Rattle.std.specs.Prelude.{ℕ, zero, suc, List, Option, Some, None, Result, Ok, Err, codes, if◌then◌else◌}
-use Rattle.std.specs.Str.{is_utf8}
+use Rattle.std.specs.Prelude.{ℕ, zero, suc, List, Result, Ok, codes}
 use Rattle.words.specs.Reading.{◌>>=◌}
-use Rattle.serde_json.specs.Data.{Data, Members}
-use Rattle.serde_json.specs.Read.{read}
+use Rattle.serde_json.specs.Data.{Members}
 use Rattle.schema_tree.specs.declared.schema.Field.{Field}
 use Rattle.schema_tree.specs.declared.schema.Schema.{Schema}
 use Rattle.avro_schema.specs.declared.refusal.SchemaRefusal.{SchemaRefusal}
-use Rattle.avro_schema.specs.declared.refusal.SchemaRefusal.TheVariants.{NotJson}
 use Rattle.avro_schema.specs.Defined.{Seen, defined}
 use Rattle.avro_schema.specs.Member.{text_at}
 use Rattle.avro_schema.specs.Reading.{Reader, no_schema, schema_at, new_field_name}
@@ -24,12 +21,3 @@ field_name_at before members = text_at (codes "name") members >>= new_field_name
 -- a definition that is whole: its schema, and what was met then
 abbrev pub whole : Seen → List ℕ → Schema → Result (Schema × Seen) SchemaRefusal
 whole seen name schema = Ok (schema, defined seen name schema)
-
--- the value of a JSON text, where it is one
-abbrev pub value_or_none : Option Data → Result Data SchemaRefusal
-value_or_none None = Err NotJson
-value_or_none (Some value) = Ok value
-
--- the value that a text is
-unfoldable pub value_of : List ℕ → Result Data SchemaRefusal
-value_of text = if is_utf8 text then value_or_none (read text) else Err NotJson

@@ -1,9 +1,26 @@
--- The schemas whose text is read as the schema again: those that a text can spell, with plain names, each of them defined once.
+-- The schemas whose text is read as the schema again: a text can spell them, with plain names, each defined once.
 use Rattle.std.specs.Prelude.{◌≡◌, ℕ, suc, ◌≤◌, ◌==◌, ◌&&◌, ◌||◌, Bool, true, false, not, List, [], ◌∷◌, nat_le}
 use Rattle.std.specs.List.{list_all, list_any, flat_map}
 use Rattle.std.specs.Str.{bytes_eq}
 use Rattle.schema_tree.specs.declared.schema.Schema.{Schema}
-use Rattle.schema_tree.specs.declared.schema.Schema.TheOpen.{Schema-F, Field-F, Null, Boolean, Int, Long, Float, Double, Raw, Str, Fixed, Enum, Rec, Array, Map, Union}
+use Rattle.schema_tree.specs.declared.schema.Schema.TheOpen.{
+  Schema-F,
+  Field-F,
+  Null,
+  Boolean,
+  Int,
+  Long,
+  Float,
+  Double,
+  Raw,
+  Str,
+  Fixed,
+  Enum,
+  Rec,
+  Array,
+  Map,
+  Union,
+}
 use Rattle.schema_tree.specs.declared.schema.Schema.TheFolds.{fold-Schema}
 use Rattle.schema_tree.specs.declared.schema.Logical.{Logical}
 use Rattle.schema_tree.specs.declared.schema.Logical.TheVariants.{Plain, Date, TimeMicros, StampMicros, StampMicrosUtc}
@@ -31,7 +48,8 @@ are_distinct (name ∷ names) = not (list_any (bytes_eq name) names) && are_dist
 
 -- ---- what can be spelled
 
--- what is known of a schema: whether it and all in it can be spelled, whether it is a union, how deep its text nests, and the names that it defines
+-- what is known of a schema: whether a text can spell it and all in it, whether it is a union,
+-- how deep its text nests, and the names that it defines
 pub record Spelled : Type 0 where
   pub right : Bool
   pub is_union : Bool
@@ -99,16 +117,26 @@ spelled_of Float = primitive true 0
 spelled_of Double = primitive true 0
 spelled_of Raw = primitive true 0
 spelled_of Str = primitive true 0
-spelled_of (Fixed name size) = record { right = is_avro_name name && nat_le size 1048576; is_union = false; levels = 1; names = name ∷ [] }
-spelled_of (Enum name symbols) = record { right = is_avro_name name && list_all is_avro_name symbols; is_union = false; levels = 2; names = name ∷ [] }
+spelled_of (Fixed name size) =
+    record { right = is_avro_name name && nat_le size 1048576; is_union = false; levels = 1; names = name ∷ [] }
+spelled_of (Enum name symbols) =
+    record {
+      right = is_avro_name name && list_all is_avro_name symbols;
+      is_union = false;
+      levels = 2;
+      names = name ∷ [];
+    }
 spelled_of (Rec name fields) = record {
-  right = is_avro_name name && list_all is_avro_name (field_names fields) && are_distinct (field_names fields) && list_all (λ (part : Spelled). part.right) (schemas_of fields);
+  right = is_avro_name name && list_all is_avro_name (field_names fields) && are_distinct (field_names fields) &&
+      list_all (λ (part : Spelled). part.right) (schemas_of fields);
   is_union = false;
   levels = suc (suc (field_levels fields));
   names = name ∷ flat_map (λ (part : Spelled). part.names) (schemas_of fields);
 }
-spelled_of (Array items element_id keyed) = record { right = items.right; is_union = false; levels = suc items.levels; names = items.names }
-spelled_of (Map values key_id value_id) = record { right = values.right; is_union = false; levels = suc values.levels; names = values.names }
+spelled_of (Array items element_id keyed) =
+    record { right = items.right; is_union = false; levels = suc items.levels; names = items.names }
+spelled_of (Map values key_id value_id) =
+    record { right = values.right; is_union = false; levels = suc values.levels; names = values.names }
 spelled_of (Union branches) = record {
   right = is_some_list branches && list_all (λ (branch : Spelled). branch.right && not branch.is_union) branches;
   is_union = true;
@@ -123,7 +151,8 @@ spelled_field field = record { name = field.name; schema = field.schema }
 abbrev pub spelled : Schema → Spelled
 spelled = fold-Schema Spelled SpelledField spelled_of spelled_field
 
--- the schema's text is read as it: it can be spelled, its names are defined once, and neither it nor its text is deeper or larger than is read
+-- the schema's text is read as it: a text can spell it, its names are defined once,
+-- and neither it nor its text is deeper or larger than is read
 pub record IsPrintable (schema : Schema) : Type 0 where
   pub right : (spelled schema).right ≡ true
   pub once : are_distinct (spelled schema).names ≡ true

@@ -1,11 +1,39 @@
--- The one text of a schema that is written: its JSON tokens, without a space between them. docs/FORMATS.md, "Avro schemas".
+-- The one text of a schema that is written: its JSON tokens, without spaces. docs/FORMATS.md, "Avro schemas".
 use Rattle.std.specs.Prelude.{ℕ, ℤ, Bool, true, false, List, [], ◌∷◌, ◌++◌, Option, Some, None, codes}
 use Rattle.std.specs.List.{flat_map}
 use Rattle.std.specs.Fmt.{decimal, signed_decimal}
-use Rattle.json.specs.Token.{Token, begin_object, end_object, begin_array, end_array, key, string, number, boolean, null}
+use Rattle.json.specs.Token.{
+  Token,
+  begin_object,
+  end_object,
+  begin_array,
+  end_array,
+  key,
+  string,
+  number,
+  boolean,
+  null,
+}
 use Rattle.json.specs.Print.{print}
 use Rattle.schema_tree.specs.declared.schema.Schema.{Schema}
-use Rattle.schema_tree.specs.declared.schema.Schema.TheOpen.{Schema-F, Field-F, Null, Boolean, Int, Long, Float, Double, Raw, Str, Fixed, Enum, Rec, Array, Map, Union}
+use Rattle.schema_tree.specs.declared.schema.Schema.TheOpen.{
+  Schema-F,
+  Field-F,
+  Null,
+  Boolean,
+  Int,
+  Long,
+  Float,
+  Double,
+  Raw,
+  Str,
+  Fixed,
+  Enum,
+  Rec,
+  Array,
+  Map,
+  Union,
+}
 use Rattle.schema_tree.specs.declared.schema.Schema.TheFolds.{fold-Schema}
 use Rattle.schema_tree.specs.declared.schema.Logical.{Logical}
 use Rattle.schema_tree.specs.declared.schema.Logical.TheVariants.{Plain, Date, TimeMicros, StampMicros, StampMicrosUtc}
@@ -70,8 +98,10 @@ abbrev pub long_tokens : Logical → List Token
 long_tokens Plain = word (codes "long")
 long_tokens Date = word (codes "long")
 long_tokens TimeMicros = object_of (logical_type (codes "long") (codes "time-micros"))
-long_tokens StampMicros = object_of (logical_type (codes "long") (codes "timestamp-micros") ++ flag_member (codes "adjust-to-utc") false)
-long_tokens StampMicrosUtc = object_of (logical_type (codes "long") (codes "timestamp-micros") ++ flag_member (codes "adjust-to-utc") true)
+long_tokens StampMicros =
+    object_of (logical_type (codes "long") (codes "timestamp-micros") ++ flag_member (codes "adjust-to-utc") false)
+long_tokens StampMicrosUtc =
+    object_of (logical_type (codes "long") (codes "timestamp-micros") ++ flag_member (codes "adjust-to-utc") true)
 
 -- the mark of an array that stands for a map
 abbrev pub keyed_member : Bool → List Token
@@ -102,16 +132,32 @@ written_of Float = other (word (codes "float"))
 written_of Double = other (word (codes "double"))
 written_of Raw = other (word (codes "bytes"))
 written_of Str = other (word (codes "string"))
-written_of (Fixed name size) = other (object_of (text_member (codes "type") (codes "fixed") ++ (text_member (codes "name") name ++ (key (codes "size") ∷ number (decimal size) ∷ []))))
-written_of (Enum name symbols) = other (object_of (text_member (codes "type") (codes "enum") ++ (text_member (codes "name") name ++ (key (codes "symbols") ∷ texts_of symbols))))
-written_of (Rec name fields) = other (object_of (text_member (codes "type") (codes "record") ++ (text_member (codes "name") name ++ (key (codes "fields") ∷ list_of (all_tokens fields)))))
-written_of (Array items element_id keyed) = other (object_of (text_member (codes "type") (codes "array") ++ (keyed_member keyed ++ (key (codes "items") ∷ (items.tokens ++ id_member (codes "element-id") element_id)))))
-written_of (Map values key_id value_id) = other (object_of (text_member (codes "type") (codes "map") ++ (key (codes "values") ∷ (values.tokens ++ (id_member (codes "key-id") key_id ++ id_member (codes "value-id") value_id)))))
-written_of (Union branches) = record { tokens = list_of (all_tokens branches); is_null = false; begins_with_null = null_is_first branches }
+written_of (Fixed name size) =
+    other (object_of (text_member (codes "type") (codes "fixed") ++
+    (text_member (codes "name") name ++ (key (codes "size") ∷ number (decimal size) ∷ []))))
+written_of (Enum name symbols) =
+    other (object_of (text_member (codes "type") (codes "enum") ++
+    (text_member (codes "name") name ++ (key (codes "symbols") ∷ texts_of symbols))))
+written_of (Rec name fields) =
+    other (object_of (text_member (codes "type") (codes "record") ++
+    (text_member (codes "name") name ++ (key (codes "fields") ∷ list_of (all_tokens fields)))))
+written_of (Array items element_id keyed) =
+    other (object_of (text_member (codes "type") (codes "array") ++
+    (keyed_member keyed ++ (key (codes "items") ∷ (items.tokens ++ id_member (codes "element-id") element_id)))))
+written_of (Map values key_id value_id) =
+    other (object_of (text_member (codes "type") (codes "map") ++
+    (key (codes "values") ∷
+    (values.tokens ++ (id_member (codes "key-id") key_id ++ id_member (codes "value-id") value_id)))))
+written_of (Union branches) =
+    record { tokens = list_of (all_tokens branches); is_null = false; begins_with_null = null_is_first branches }
 
 -- a field
 abbrev pub written_field : Field-F Written Written → Written
-written_field field = other (object_of (text_member (codes "name") field.name ++ (key (codes "type") ∷ (field.schema.tokens ++ (default_member field.schema.begins_with_null ++ id_member (codes "field-id") field.id)))))
+written_field field =
+    other (object_of (text_member (codes "name") field.name ++
+    (key (codes "type") ∷
+    (field.schema.tokens ++
+    (default_member field.schema.begins_with_null ++ id_member (codes "field-id") field.id)))))
 
 -- a schema as it is written
 abbrev pub written : Schema → Written

@@ -1,13 +1,35 @@
 -- Which schema a JSON value is, or the first place from the top that is none.
 -- Avro 1.11, "Schema Declaration", "Names"; Iceberg spec, "Appendix A: Avro" for the ids.
-use Rattle.std.specs.Prelude.{ℕ, zero, suc, ◌+◌, Bool, true, false, ◌||◌, List, [], ◌∷◌, ◌++◌, Option, Some, None, Result, Ok, Err, nat_lt, codes, if◌then◌else◌}
+use Rattle.std.specs.Prelude.{
+  ℕ,
+  zero,
+  suc,
+  ◌+◌,
+  Bool,
+  true,
+  false,
+  ◌||◌,
+  List,
+  [],
+  ◌∷◌,
+  ◌++◌,
+  Option,
+  Some,
+  None,
+  Result,
+  Ok,
+  Err,
+  nat_lt,
+  codes,
+  if◌then◌else◌,
+}
 use Rattle.std.specs.Fmt.{decimal}
 use Rattle.std.specs.List.{list_any}
-use Rattle.std.specs.Str.{bytes_eq, is_utf8}
+use Rattle.std.specs.Str.{bytes_eq}
 use Rattle.words.specs.Reading.{◌>>=◌, map_value}
 use Rattle.serde_json.specs.Data.{Data, null, boolean, number, string, array, object, Members}
 use Rattle.serde_json.specs.Find.{get_member}
-use Rattle.serde_json.specs.Read.{read}
+use Rattle.json_members.specs.Parsing.{value_of}
 use Rattle.schema_tree.specs.declared.schema.Schema.{Schema}
 use Rattle.schema_tree.specs.declared.schema.Schema.TheVariants as schemas
 use Rattle.schema_tree.specs.declared.schema.Field.{Field, out-Field, roll-Field}
@@ -17,7 +39,18 @@ use Rattle.avro_schema.specs.declared.refusal.SchemaRefusal.{SchemaRefusal}
 use Rattle.avro_schema.specs.declared.refusal.SchemaRefusal.TheVariants.{NotJson, Form, Unknown, Nesting}
 use Rattle.avro_schema.specs.Refusal.{under}
 use Rattle.schema_tree.specs.Tree.{depth, size}
-use Rattle.avro_schema.specs.Member.{text_of, values_of, or_form, needed, text_at, list_at, fixed_size_at, id_at, is_text, is_true}
+use Rattle.avro_schema.specs.Member.{
+  text_of,
+  values_of,
+  or_form,
+  needed,
+  text_at,
+  list_at,
+  fixed_size_at,
+  id_at,
+  is_text,
+  is_true,
+}
 use Rattle.avro_schema.specs.Defined.{Seen, known_as, is_taken, full_name, namespace_of, begun, defined, nothing_seen}
 
 -- ---- primitive types
@@ -48,7 +81,8 @@ moment false = StampMicros
 abbrev pub logical_long : Members → Logical
 logical_long members =
     if is_text (get_member (codes "logicalType") members) (codes "time-micros") then TimeMicros
-    else (if is_text (get_member (codes "logicalType") members) (codes "timestamp-micros") then moment (is_true (get_member (codes "adjust-to-utc") members))
+    else (if is_text (get_member (codes "logicalType") members) (codes "timestamp-micros")
+    then moment (is_true (get_member (codes "adjust-to-utc") members))
     else Plain)
 
 -- the type that the word names, with what the other members say of it
@@ -62,7 +96,9 @@ logical_of word members schema =
 
 -- a schema stands here that is so deep, and counts so many, where so many levels may stand from it down
 abbrev pub counted : ℕ → ℕ → ℕ → Seen → Result Seen SchemaRefusal
-counted room levels many seen = if nat_lt room levels || nat_lt 65536 (seen.count + many) then Err Nesting else Ok (record { names = seen.names; count = seen.count + many })
+counted room levels many seen =
+    if nat_lt room levels || nat_lt 65536 (seen.count + many) then Err Nesting
+    else Ok (record { names = seen.names; count = seen.count + many })
 
 -- ---- the parts of a schema, over the reader of the schemas in it
 
@@ -74,7 +110,8 @@ Reader = List ℕ → Seen → Data → Result (Schema × Seen) SchemaRefusal
 abbrev pub use_of : ℕ → List ℕ → Seen → Option (Option Schema) → Result (Schema × Seen) SchemaRefusal
 use_of room name seen None = Err (Unknown name)
 use_of room name seen (Some None) = Err (Unknown name)
-use_of room name seen (Some (Some schema)) = map_value (λ after. (schema, after)) (counted room (depth schema) (size schema) seen)
+use_of room name seen (Some (Some schema)) =
+    map_value (λ after. (schema, after)) (counted room (depth schema) (size schema) seen)
 
 -- a word alone: a primitive type, or a name
 abbrev pub word_at : ℕ → List ℕ → Seen → List ℕ → Option Schema → Result (Schema × Seen) SchemaRefusal
@@ -97,7 +134,8 @@ namespace_at members = as_text (get_member (codes "namespace") members)
 
 -- a name that isn't taken yet, and a namespace that is a text where it is there
 abbrev pub checked_name : Seen → List ℕ → Option (Option (List ℕ)) → Result (List ℕ) SchemaRefusal
-checked_name seen name namespace = if is_taken seen.names name then Err (Form (codes "name")) else text_or_none namespace name
+checked_name seen name namespace =
+    if is_taken seen.names name then Err (Form (codes "name")) else text_or_none namespace name
   where
     text_or_none : Option (Option (List ℕ)) → List ℕ → Result (List ℕ) SchemaRefusal
     text_or_none None name = Ok name
@@ -107,7 +145,8 @@ checked_name seen name namespace = if is_taken seen.names name then Err (Form (c
 -- the full name of a definition
 abbrev pub name_at : List ℕ → Seen → Members → Result (List ℕ) SchemaRefusal
 name_at scope seen members =
-    text_at (codes "name") members >>= λ name. checked_name seen (full_name (scope_of scope (namespace_at members)) name) (namespace_at members)
+    text_at (codes "name") members >>= λ name.
+    checked_name seen (full_name (scope_of scope (namespace_at members)) name) (namespace_at members)
 
 -- some field has the name
 abbrev pub has_field : List Field → List ℕ → Bool
@@ -118,7 +157,8 @@ abbrev pub new_field_name : List Field → List ℕ → Result (List ℕ) Schema
 new_field_name before name = if has_field before name then Err (Form (codes "name")) else Ok name
 
 -- a field behind others
-abbrev pub field_at : (Seen → Data → Result (Schema × Seen) SchemaRefusal) → List Field → Seen → Data → Result (Field × Seen) SchemaRefusal
+abbrev pub field_at : (Seen → Data → Result (Schema × Seen) SchemaRefusal) → List Field → Seen → Data
+    → Result (Field × Seen) SchemaRefusal
 field_at schema_in before seen null = Err (Form [])
 field_at schema_in before seen (boolean flag) = Err (Form [])
 field_at schema_in before seen (number num) = Err (Form [])
@@ -133,7 +173,8 @@ field_at schema_in before seen (object members) = do
   Ok (roll-Field (record { name = name; id = id; schema = schema.0 }), schema.1)
 
 -- a schema that is no union
-abbrev pub branch_at : (Seen → Data → Result (Schema × Seen) SchemaRefusal) → Seen → Data → Result (Schema × Seen) SchemaRefusal
+abbrev pub branch_at : (Seen → Data → Result (Schema × Seen) SchemaRefusal) → Seen → Data
+    → Result (Schema × Seen) SchemaRefusal
 branch_at schema_in seen (array items) = Err (Form [])
 branch_at schema_in seen null = schema_in seen null
 branch_at schema_in seen (boolean flag) = schema_in seen (boolean flag)
@@ -142,21 +183,26 @@ branch_at schema_in seen (string text) = schema_in seen (string text)
 branch_at schema_in seen (object members) = schema_in seen (object members)
 
 -- fields behind others; the place of the first one in the list, from 1
-unfoldable pub fields_at : (Seen → Data → Result (Schema × Seen) SchemaRefusal) → ℕ → List Field → Seen → List Data → Result (List Field × Seen) SchemaRefusal
+unfoldable pub fields_at : (Seen → Data → Result (Schema × Seen) SchemaRefusal) → ℕ → List Field → Seen → List Data
+    → Result (List Field × Seen) SchemaRefusal
 fields_at schema_in place before seen [] = Ok (before, seen)
 fields_at schema_in place before seen (value ∷ values) =
-    under (decimal place) (field_at schema_in before seen value) >>= λ field. fields_at schema_in (place + 1) (before ++ field.0 ∷ []) field.1 values
+    under (decimal place) (field_at schema_in before seen value) >>= λ field.
+    fields_at schema_in (place + 1) (before ++ field.0 ∷ []) field.1 values
 
 -- the texts of a list, behind others; the place of the first one in the list, from 1
 unfoldable pub texts_at : ℕ → List (List ℕ) → List Data → Result (List (List ℕ)) SchemaRefusal
 texts_at place before [] = Ok before
-texts_at place before (value ∷ values) = or_form (decimal place) (text_of value) >>= λ text. texts_at (place + 1) (before ++ text ∷ []) values
+texts_at place before (value ∷ values) =
+    or_form (decimal place) (text_of value) >>= λ text. texts_at (place + 1) (before ++ text ∷ []) values
 
 -- the branches of a union, behind others; none of them is a union
-unfoldable pub branches_at : (Seen → Data → Result (Schema × Seen) SchemaRefusal) → ℕ → List Schema → Seen → List Data → Result (List Schema × Seen) SchemaRefusal
+unfoldable pub branches_at : (Seen → Data → Result (Schema × Seen) SchemaRefusal) → ℕ → List Schema → Seen → List Data
+    → Result (List Schema × Seen) SchemaRefusal
 branches_at schema_in place before seen [] = Ok (before, seen)
 branches_at schema_in place before seen (value ∷ values) =
-    under (decimal place) (branch_at schema_in seen value) >>= λ branch. branches_at schema_in (place + 1) (before ++ branch.0 ∷ []) branch.1 values
+    under (decimal place) (branch_at schema_in seen value) >>= λ branch.
+    branches_at schema_in (place + 1) (before ++ branch.0 ∷ []) branch.1 values
 
 -- ---- the kinds of schemas that an object is
 
@@ -219,7 +265,9 @@ typed_at schema_in scope seen members word None = complex_at schema_in scope see
 abbrev pub union_at : Reader → List ℕ → ℕ → Seen → List Data → Result (Schema × Seen) SchemaRefusal
 union_at schema_in scope room seen [] = Err (Form [])
 union_at schema_in scope room seen (value ∷ values) =
-    counted room 1 1 seen >>= λ after. map_value (λ branches. (schemas.Union branches.0, branches.1)) (branches_at (schema_in scope) 1 [] after (value ∷ values))
+    counted room 1 1 seen >>= λ after.
+    map_value (λ branches. (schemas.Union branches.0, branches.1))
+    (branches_at (schema_in scope) 1 [] after (value ∷ values))
 
 -- ---- a schema
 
@@ -239,7 +287,8 @@ layer_at schema_in room scope seen (object members) = do
 abbrev pub no_schema : Reader
 no_schema scope seen value = Err Nesting
 
--- a schema at most so deep, in a namespace, where this was met before it: what it is, and what was met then; or the first place from the top that is none
+-- a schema at most so deep, in a namespace, where this was met before it: what it is, and what was met then;
+-- or the first place from the top that is none
 unfoldable pub schema_at : ℕ → Reader
 schema_at zero = layer_at no_schema 0
 schema_at (suc room) = layer_at (schema_at room) (suc room)
@@ -255,4 +304,4 @@ schema_of_json (Some value) = schema_of_value value
 
 -- the schema that a text is
 unfoldable pub schema_of : List ℕ → Result Schema SchemaRefusal
-schema_of text = if is_utf8 text then schema_of_json (read text) else Err NotJson
+schema_of text = schema_of_json (value_of text)

@@ -7,11 +7,12 @@
 //! | `member` | the members of a JSON object |
 //! | `primitive` | primitive types, and what their numbers stand for |
 //! | `definition` | enums, fixed types, and the name of any definition |
-//! | `reading` | the schema of a text |
+//! | `reading`, `law` | the schema of a text; what it has to do with the meaning of the text |
 //! | `printing` | the text of a schema |
 #![tactic(auto)]
 
 mod definition;
+mod law;
 mod member;
 mod name;
 mod primitive;
@@ -21,6 +22,7 @@ mod refusal;
 mod seen;
 
 pub use printing::print_schema;
+pub use law::reading_agrees;
 pub use reading::read_schema;
 pub use refusal::SchemaRefusal;
 pub use schema_tree::{Branches, Field, Fields, Logical, Name, Names, Schema};

@@ -8,19 +8,9 @@ ghost use Rattle.avro_schema.specs.Refusal.{is_memory};
 ghost use Rattle.words.specs.Reading.{Gives};
 
 use crate::refusal::{SchemaRefusal, form};
-use serde_json::{Map, Value};
+use json_members::{Members, int_of, member};
+use serde_json::Value;
 use std::alloc::Global;
-
-/// The members of a JSON object, by their names.
-pub type Members = Map<String, Value>;
-
-/// The member of the name. `None`: there is none.
-pub fn member<'v>(members: &'v Members, key: &str) -> Option<&'v Value>
-    ensures { option_map (λ value. view value.now) result
-        ≡ get_member key.now (members_view members.now.entries) }
-{
-    members.get(key)
-}
 
 /// A member that has to be there.
 pub fn needed<'v>(
@@ -117,17 +107,6 @@ pub fn fixed_size_at(alloc: Global, members: &Members, key: &str) -> Result<u32,
         }
     }
     Err(form(alloc, key))
-}
-
-/// A whole number of 32 bits. `None`: the value is none.
-fn int_of(value: &Value) -> Option<i32>
-    ensures { result ≡ spec.int_of (view value.now) }
-{
-    let wide = value.as_i64()?;
-    if wide < -2_147_483_648 || wide > 2_147_483_647 {
-        return None;
-    }
-    Some(wide as i32)
 }
 
 /// An id, which may be absent. `None`: it is.

@@ -4,7 +4,8 @@ ghost use Rattle.std.specs.Prelude.{◌≡◌};
 ghost use Rattle.serde_json.specs.View.{members_view};
 ghost use Rattle.avro_schema.specs.Reading as spec;
 
-use crate::member::{Members, is_text, is_true};
+use crate::member::{is_text, is_true};
+use json_members::Members;
 use schema_tree::{Logical, Schema};
 
 /// The type that the word names. `None`: it names no primitive type.

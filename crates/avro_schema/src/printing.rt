@@ -9,9 +9,9 @@ ghost use Rattle.avro_schema.specs.Printing.{schema_text, written, text_member, 
 ghost use Rattle.schema_tree.specs.Ids.{is_id, all_true, has_ids, field_has_ids};
 ghost use Rattle.avro_schema.specs.Putting.{Puts, field_written, fields_tokens, branches_tokens};
 
-use schema_tree::{Branches, Field, Fields, Logical, Names, Schema};
 use avro_wire::Text;
 use json::Writer;
+use schema_tree::{Branches, Field, Fields, Logical, Names, Schema};
 use std::alloc::{AllocError, Global};
 
 /// The text of the schema, without spaces. An `Err` says that memory ran out.

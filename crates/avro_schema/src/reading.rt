@@ -8,22 +8,20 @@ ghost use Rattle.schema_tree.specs.declared.schema.Field.{out-Field};
 ghost use Rattle.schema_tree.specs.declared.schema.Schema.{Schema as ASchema};
 ghost use Rattle.avro_schema.specs.Meaning.{IsSchemaText};
 ghost use Rattle.avro_schema.specs.Reading as spec;
-ghost use Rattle.avro_schema.specs.Reading.{has_field};
-ghost use Rattle.avro_schema.specs.Parts as parts;
 ghost use Rattle.avro_schema.specs.Parts.{schema_below, field_name_at};
-ghost use Rattle.avro_schema.specs.Refusal.{is_memory};
-ghost use Rattle.avro_schema.specs.Refusal as refusals;
+ghost use Rattle.avro_schema.specs.Refusal.{is_memory, under as under_piece};
 ghost use Rattle.words.specs.Reading.{Gives};
 
 use crate::definition::{begin_record, enum_of, fixed_of, whole_record};
-use crate::member::{Members, id_at, is_text, list_at, needed, text_at};
+use crate::member::{id_at, is_text, list_at, needed, text_at};
 use crate::name::{full_name, namespace_of};
 use crate::primitive::{logical_of, primitive_of};
 use crate::refusal::{SchemaRefusal, form, under, under_place};
-use schema_tree::{Branches, Field, Fields, Name, Schema};
 use crate::seen::Seen;
 use avro_wire::Text;
+use json_members::{Members, parse};
 use lists::{Distinct, List};
+use schema_tree::{Branches, Field, Fields, Name, Schema};
 use serde_json::Value;
 use sqlite_items::Boxed;
 use std::alloc::Global;
@@ -51,23 +49,11 @@ pub fn read_schema(alloc: Global, text: &[u8]) -> Result<Schema, SchemaRefusal>
 fn schema_of_text(alloc: Global, text: &[u8]) -> Result<Schema, SchemaRefusal>
     ensures exact { Gives is_memory (λ schema. schema) result (spec.schema_of text.now) }
 {
-    let value = value_of(alloc, text)?;
+    let Some(value) = parse(alloc, text)? else {
+        return Err(SchemaRefusal::NotJson);
+    };
     let mut seen = Seen::new(alloc);
     schema_of(alloc, &value, "", LEVELS, &mut seen)
-}
-
-/// The value that a JSON text is.
-fn value_of(alloc: Global, text: &[u8]) -> Result<Value, SchemaRefusal>
-    ensures exact { Gives is_memory (λ value. view value) result (parts.value_of text.now) }
-{
-    match Value::from_slice(alloc, text) {
-        Ok(value) => Ok(value),
-        Err(error) => if error.is_memory() {
-            Err(SchemaRefusal::Memory)
-        } else {
-            Err(SchemaRefusal::NotJson)
-        },
-    }
 }
 
 /// A word alone: a primitive type, or a name.
@@ -97,7 +83,7 @@ fn field_name(
 ) -> Result<Name, SchemaRefusal>
     ensures exact { Gives is_memory (λ name. name) result
         (field_name_at before.now (members_view members.now.entries)) }
-    ensures new { IfOk result (λ name. has_field before.now name ≡ false) }
+    ensures new { IfOk result (λ name. spec.has_field before.now name ≡ false) }
 {
     let name = match text_at(alloc, members, "name") {
         Ok(name) => name,
@@ -120,7 +106,7 @@ fn piece_of(
     seen: &mut Seen,
 ) -> Result<Schema, SchemaRefusal>
     ensures exact { Gives is_memory (λ schema. (schema, seen.new)) result
-        (refusals.under key.now (schema_below room scope.now seen.old (view value.now))) }
+        (under_piece key.now (schema_below room scope.now seen.old (view value.now))) }
 {
     under(alloc, key, schema_of(alloc, value, scope, room, seen))
 }
@@ -137,7 +123,7 @@ fn field_of(
 ) -> Result<Field, SchemaRefusal>
     ensures exact { Gives is_memory (λ field. (field, seen.new)) result
         (spec.field_at (schema_below room scope.now) before.now seen.old (view value.now)) }
-    ensures new { IfOk result (λ field. has_field before.now (out-Field field).name ≡ false) }
+    ensures new { IfOk result (λ field. spec.has_field before.now (out-Field field).name ≡ false) }
 {
     let Some(members) = value.as_object() else {
         return Err(form(alloc, ""));

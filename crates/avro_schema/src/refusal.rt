@@ -8,8 +8,8 @@ ghost use Rattle.avro_schema.specs.Refusal as spec;
 ghost use Rattle.avro_schema.specs.Refusal.{is_memory};
 ghost use Rattle.words.specs.Reading.{Gives};
 
-use schema_tree::Name;
 use avro_wire::Text;
+use schema_tree::Name;
 use std::alloc::{AllocError, AllocFailed, Global};
 
 /// Why a text is no schema: the first cause from the top. docs/FORMATS.md, "Avro schemas".

@@ -1,7 +1,7 @@
 -- How the readers of words go on, step by step, and that they stay within the text.
-use Rattle.std.proofs.Common.{inl, inr, eqb, ◌≡◌, ℕ, zero, suc, ◌+◌, ◌≤◌, ◌<◌, ◌≢◌, Bool, true, cond, List, [], ◌∷◌, length, map, drop, get_or, max, Result, Ok, Err, IfOk, sym, ap, ◌∙◌, arith}
+use Rattle.std.proofs.Common.{inl, inr, eqb, ◌≡◌, ℕ, suc, ◌+◌, ◌≤◌, ◌<◌, ◌≢◌, Bool, cond, List, length, map, drop, get_or, max, Result, Ok, Err, IfOk, sym, ap, ◌∙◌, arith}
 use Rattle.std.specs.Prelude.{slice_get}
-use Rattle.std.proofs.lemmas.Bool.{false≢true, cases_Bool, eq-eqb, ne_eqb}
+use Rattle.std.proofs.lemmas.Bool.{cases_Bool, eq-eqb, ne_eqb}
 use Rattle.std.proofs.lemmas.List.{at_drop_more, at_drop_all}
 use Rattle.words.specs.Reading.{◌>>=◌}
 use Rattle.pieces.specs.declared.refusal.PieceRefusal.{PieceRefusal}

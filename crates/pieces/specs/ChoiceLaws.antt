@@ -16,7 +16,7 @@ abbrev pub AllRefused : List ℕ → ℕ → List (List ℕ) → Type 0
 AllRefused input place [] = Unit {0}
 AllRefused input place (word ∷ words) = IsErr (word_at word input place) × AllRefused input place words
 
--- so it is read from any index on
+-- the first of the words that stands there is read, if the list is counted from any index
 first_from : (words : List (List ℕ)) (index k : ℕ) (word input : List ℕ) (place after far : ℕ)
     → slice_get words k ≡ Some word → AllRefused input place (take k words) → word_at word input place ≡ Ok after
     → one_of_from index words input place far ≡ Ok (index + k, after)
@@ -48,7 +48,7 @@ one_of_first words k word input place after is refused taken =
     let none : 0 + k ≡ k = omega arith in
     first_from words 0 k word input place after place is refused taken ∙ ap (λ (n : ℕ). Ok (n, after)) none
 
--- two words have another byte at some place that both have
+-- two words differ at a place that both have
 abbrev pub differ : List ℕ → List ℕ → Bool
 differ [] other = false
 differ (byte ∷ word) [] = false
@@ -90,7 +90,7 @@ all_refused (other ∷ words) word input rest place d e =
     let parts = and_parts (differ other word) (all_differ words word) d in
     (differ_refused other word input rest place parts.0 e, all_refused words word input rest place parts.1 e)
 
--- a word of the list that stands there is read, where the words before it in the list differ from it
+-- a word of the list is read, if the words before it in the list differ from it
 pub one_of_again : (words : List (List ℕ)) (k : ℕ) (word input rest : List ℕ) (place : ℕ)
     → slice_get words k ≡ Some word → all_differ (take k words) word ≡ true → drop place input ≡ word ++ rest
     → one_of words input place ≡ Ok (k, place + length word)

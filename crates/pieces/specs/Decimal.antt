@@ -8,11 +8,11 @@ abbrev pub all_digits : List ℕ → Bool
 all_digits [] = true
 all_digits (byte ∷ rest) = is_digit byte && all_digits rest
 
--- a number of 64 bits with a sign
+-- the number has 64 bits, with its sign
 abbrev pub is_long : ℤ → Bool
 is_long number = not (int_lt number (negsuc (2 ^ 63 - 1))) && int_lt number (pos (2 ^ 63))
 
--- a number of 64 bits, or none
+-- the number is absent, or has 64 bits
 abbrev pub is_long_or_none : Option ℤ → Bool
 is_long_or_none None = true
 is_long_or_none (Some number) = is_long number

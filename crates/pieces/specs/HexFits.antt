@@ -1,12 +1,8 @@
 -- What is read in hexadecimal is bytes.
-use Rattle.std.proofs.Common.{◌≡◌, ℕ, ◌+◌, ◌-◌, ◌*◌, ◌<◌, Bool, true, List, [], ◌∷◌, ◌++◌, drop, nat_lt, Option, Some,
-  None, Result, Ok, Err, IfOk, inl, inr, refl, ◌∙◌, arith, ◌&&◌}
-use Rattle.std.specs.List.{list_all}
+use Rattle.std.proofs.Common.{◌≡◌, ℕ, ◌+◌, ◌-◌, ◌*◌, ◌<◌, true, List, [], ◌∷◌, ◌++◌, nat_lt, Option, Some, None, IfOk,
+  inl, inr, refl, ◌∙◌, arith, ◌&&◌}
 use Rattle.std.proofs.lemmas.Bool.{cases_Bool, and_parts, and_from, lt-ltb, ltb-true}
 use Rattle.std.proofs.lemmas.List.Folds.{list_all-append}
-use Rattle.words.specs.Reading.{◌>>=◌}
-use Rattle.pieces.specs.declared.refusal.PieceRefusal.{PieceRefusal}
-use Rattle.pieces.specs.Word.{byte_at}
 use Rattle.pieces.specs.HexLiteral.{hex_digit, pairs_at, are_bytes}
 
 -- a digit stands for a number below 16
@@ -36,7 +32,7 @@ pair_small bytes high low small smaller all =
     list_all-append (λ byte. nat_lt byte 256) bytes ((high * 16 + low) ∷ [])
         ∙ and_from _ _ all (and_from _ true one refl)
 
--- the first digit of a byte, where it was read
+-- the first digit of a byte, if it was read
 abbrev pub IsHigh : Option ℕ → Type 0
 IsHigh None = Unit {0}
 IsHigh (Some high) = high < 16

@@ -1,6 +1,6 @@
 -- Bytes as an x and two lower-case hexadecimal digits for each.
-use Rattle.std.specs.Prelude.{ℕ, ◌+◌, ◌-◌, ◌*◌, Bool, false, ◌&&◌, List, [], ◌∷◌, ◌++◌, drop, Option, Some, None,
-  is_some, Result, Ok, Err, nat_lt, codes, if◌then◌else◌}
+use Rattle.std.specs.Prelude.{ℕ, ◌+◌, ◌-◌, ◌*◌, Bool, false, ◌&&◌, List, [], ◌∷◌, ◌++◌, drop, Option, Some,
+  None, is_some, Result, Ok, Err, nat_lt, codes, if◌then◌else◌}
 use Rattle.std.specs.List.{list_all}
 use Rattle.hex.specs.Hex.{encode_lower}
 use Rattle.words.specs.Reading.{◌>>=◌}

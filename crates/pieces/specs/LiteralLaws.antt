@@ -10,7 +10,7 @@ use Rattle.pieces.specs.Literal.{escape, literal_text, literal_at}
 use Rattle.pieces.specs.WordLaws.{byte_again, range_none, range_more}
 use Rattle.pieces.specs.LiteralTexts.{rest_again}
 
--- a printed literal is read as its text, up to the place behind it
+-- a printed text is read, up to the place behind it
 pub literal_again : (text input rest : List ℕ) (place : ℕ) → drop place input ≡ literal_text text ++ rest
     → literal_at input place ≡ Ok (text, place + length (literal_text text))
 literal_again text input rest place front =
@@ -24,7 +24,7 @@ literal_again text input rest place front =
 
 -- ---- runs of bytes that stand for themselves
 
--- behind the first plain bytes, those up to at stand for themselves
+-- the bytes from `plain` up to `at` stand for themselves as they are printed
 pub record IsRun (text : List ℕ) (plain at : ℕ) : Type 0 where
   pub before : plain ≤ at
   pub within : at ≤ length text
@@ -57,7 +57,7 @@ run_goes_on text plain at run lt itself = record {
       ∙ ap (λ (l : List ℕ). flat_map escape (take plain text) ++ l) (sym (range_more text plain at run.before lt)))));
 }
 
--- the run and a byte that is escaped are what stands up to it
+-- the text up to a byte that is escaped is the run before it, and the escape
 pub run_ends : (text : List ℕ) (plain at : ℕ) (escaped : List ℕ) → IsRun text plain at → at < length text
     → escape (get_or text at 0) ≡ escaped
     → (flat_map escape (take plain text) ++ slice_range text plain at) ++ escaped ≡ flat_map escape (take (at + 1) text)

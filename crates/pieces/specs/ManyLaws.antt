@@ -6,14 +6,14 @@ use Rattle.pieces.specs.Many.{Item, More, many}
 
 -- ---- the steps of a loop
 
--- reading on from here, with fuel for the bytes that are left, is the total
+-- reading on from here gives the total; the fuel is enough for the bytes that are left
 pub record ManyFrom {X E : Type 0} (item : Item X E) (more : More E) (size : ℕ) (read : List X) (place : ℕ)
     (total : Result (List X × ℕ) E) : Type 0 where
   pub fuel : ℕ
   pub enough : size < place + fuel
   pub rest : many item more fuel read place ≡ total
 
--- the first item is still to come
+-- before the first item
 pub many_from_start : {X E : Type 0} (item : Item X E) (more : More E) (size place : ℕ)
     → ManyFrom item more size [] place (many item more (size + 1) [] place)
 many_from_start item more size place = record {
@@ -22,7 +22,7 @@ many_from_start item more size place = record {
   rest = refl;
 }
 
--- what many items are, with an item to come
+-- inside the text there is fuel for one more item
 pub many_is : {X E : Type 0} (item : Item X E) (more : More E) (size : ℕ) (read : List X) (place : ℕ)
     (total : Result (List X × ℕ) E) → ManyFrom item more size read place total → place ≤ size
     → (fuel : ℕ) × (size < place + suc fuel) × (many item more (suc fuel) read place ≡ total)
@@ -64,7 +64,7 @@ many_refused item more size read place total refusal from within one =
     let is = many_is item more size read place total from within in
     sym is.2 ∙ rw one refl
 
--- what stands behind the next item is refused
+-- the next item is read, and what stands behind it is refused
 pub many_stopped : {X E : Type 0} (item : Item X E) (more : More E) (size : ℕ) (read : List X) (place : ℕ)
     (total : Result (List X × ℕ) E) (x : X) (after : ℕ) (refusal : E) → ManyFrom item more size read place total
     → place ≤ size → item read place ≡ Ok (x, after) → more after ≡ Err refusal → total ≡ Err refusal
@@ -96,7 +96,7 @@ kept_once item more P fuel read place (Ok one) is kept later = kept_behind item 
     is refl kept (λ start. later (read ++ one.0 ∷ []) start kept)
 kept_once item more P fuel read place (Err refusal) is kept later = rw is tt
 
--- what each item keeps holds of all of them
+-- a fact that each item keeps holds of all items
 pub many_keep : {X E : Type 0} (item : Item X E) (more : More E) (P : List X → Type 0) (fuel : ℕ) (read : List X)
     (place : ℕ) → ((read : List X) (place : ℕ) → P read → IfOk (item read place) (λ one. P (read ++ one.0 ∷ [])))
     → P read
@@ -106,7 +106,7 @@ many_keep item more P zero read place step holds = holds
 many_keep item more P (suc fuel) read place step holds = kept_once item more P fuel read place (item read place) refl
     (step read place holds) (λ items start kept. many_keep item more P fuel items start step kept)
 
--- what holds of the first item alone, and is kept by each item, holds of all of them
+-- a fact that holds of the first item alone, and that each item keeps, holds of all items
 pub many_some : {X E : Type 0} (item : Item X E) (more : More E) (P : List X → Type 0) (size place : ℕ)
     → ((place : ℕ) → IfOk (item [] place) (λ one. P (one.0 ∷ [])))
     → ((read : List X) (place : ℕ) → P read → IfOk (item read place) (λ one. P (read ++ one.0 ∷ [])))

@@ -1,8 +1,8 @@
 -- Laws of numbers: a printed number is read where it stands, if no digit follows it.
 use Rattle.std.specs.Prelude.{slice_get}
 use Rattle.std.specs.Fmt.{decimal, signed_decimal}
-use Rattle.std.proofs.Common.{◌≡◌, ◌≢◌, ℕ, suc, ◌+◌, ◌-◌, ◌^◌, ◌≤◌, ◌<◌, ℤ, pos, negsuc, ◌≤ℤ◌, Bool, true, false,
-  cond, List, [], ◌∷◌, ◌++◌, length, drop, Option, Some, None, Result, Ok, refl, ap, ◌∙◌, arith}
+use Rattle.std.proofs.Common.{◌≡◌, ◌≢◌, ℕ, suc, ◌+◌, ◌-◌, ◌^◌, ◌<◌, ℤ, pos, negsuc, ◌≤ℤ◌, Bool, true, false, cond,
+  List, [], ◌∷◌, ◌++◌, length, drop, Option, Some, None, Result, Ok, refl, ap, ◌∙◌, arith}
 use Rattle.std.proofs.lemmas.Int.{ints}
 use Rattle.std.proofs.lemmas.Fmt.{digits_decimal, decimal_nonempty, first_decimal}
 use Rattle.words.specs.Reading.{◌>>=◌, map_value}
@@ -10,8 +10,8 @@ use Rattle.words.specs.Parts.{behind_is}
 use Rattle.pieces.specs.declared.refusal.PieceRefusal.{PieceRefusal}
 use Rattle.pieces.specs.declared.number.Digits.{Digits}
 use Rattle.pieces.specs.Word.{is_this, spaces}
-use Rattle.pieces.specs.Number.{is_digit, digits, begins, negative, Signed, signed_as, signed_at, no_more,
-  unsigned_at, count_at, of_64_bits, long_at, or_none, any_number_at, is_absent, optional_long_at, optional_text}
+use Rattle.pieces.specs.Number.{is_digit, digits, negative, Signed, signed_as, signed_at, no_more, unsigned_at,
+  count_at, of_64_bits, long_at, or_none, any_number_at, is_absent, optional_long_at, optional_text}
 use Rattle.pieces.specs.Decimal.{all_digits, is_long, is_long_or_none}
 use Rattle.pieces.specs.WordLaws.{is_this_again, no_space_first}
 use Rattle.pieces.specs.NumberTexts.{own, no_minus, positive_again, natural_again, above_is, below_is, begins_none,
@@ -35,7 +35,7 @@ no_digit_first byte rest is_not = ap (λ (b : Bool). cond b (suc (digits rest)) 
 
 -- ---- printed numbers are read
 
--- a number with its sign that is printed is read
+-- the reader that tells numbers past 64 bits apart reads a printed number
 pub signed_again : (number : ℤ) (input rest : List ℕ) (place : ℕ) → is_long number ≡ true
     → drop place input ≡ signed_decimal number ++ rest → digits rest ≡ 0
     → signed_at input place ≡ Ok (Ok (number, place + length (signed_decimal number)))
@@ -57,7 +57,7 @@ signed_again (negsuc n) input rest place fits e none =
         (positive_again (2 ^ 63) (suc n) input rest (place + 1) (omega arith) small (omega arith) next none)
         ∙ ap (λ (after : ℕ). Ok (Ok (negsuc n, after))) size)
 
--- a number without sign that is printed is read
+-- a printed number without a sign is read
 pub unsigned_again : (number : ℕ) (input rest : List ℕ) (place : ℕ) → number < 2 ^ 64
     → drop place input ≡ decimal number ++ rest → digits rest ≡ 0
     → unsigned_at input place ≡ Ok (number, place + length (decimal number))
@@ -65,21 +65,21 @@ unsigned_again number input rest place fits e none =
     ap (λ (r : Result Digits PieceRefusal). r >>= no_more)
         (natural_again (2 ^ 64 - 1) number input rest place (omega arith) fits e none)
 
--- a number with a sign that is printed is read
+-- the reader of numbers with a sign reads a printed number
 pub long_again : (number : ℤ) (input rest : List ℕ) (place : ℕ) → is_long number ≡ true
     → drop place input ≡ signed_decimal number ++ rest → digits rest ≡ 0
     → long_at input place ≡ Ok (number, place + length (signed_decimal number))
 long_again number input rest place fits e none =
     ap (λ (r : Result Signed PieceRefusal). r >>= of_64_bits) (signed_again number input rest place fits e none)
 
--- so it is where a number of any size may stand
+-- so does the reader of numbers of any size
 pub any_number_again : (number : ℤ) (input rest : List ℕ) (place : ℕ) → is_long number ≡ true
     → drop place input ≡ signed_decimal number ++ rest → digits rest ≡ 0
     → any_number_at input place ≡ Ok (Some number, place + length (signed_decimal number))
 any_number_again number input rest place fits e none =
     ap (map_value or_none) (signed_again number input rest place fits e none)
 
--- a number from 1 that is printed is read
+-- a printed number from 1 is read as a count
 pub count_again : (number : ℤ) (input rest : List ℕ) (place : ℕ) → pos 1 ≤ℤ number → is_long number ≡ true
     → drop place input ≡ signed_decimal number ++ rest → digits rest ≡ 0
     → count_at input place ≡ Ok (number, place + length (signed_decimal number))
@@ -90,7 +90,7 @@ count_again (pos n) input rest place some fits e none =
         (positive_again (2 ^ 63 - 1) n input rest place above (omega arith) (omega arith) e none)
 count_again (negsuc n) input rest place some fits e none = absurd (omega (arith, ints))
 
--- a number that is printed is not absent
+-- a printed number is not read as an absent one
 pub not_absent : (number : ℤ) (input rest : List ℕ) (place : ℕ) → is_long number ≡ true
     → drop place input ≡ signed_decimal number ++ rest → is_absent input place ≡ false
 not_absent (pos n) input rest place fits e =
@@ -105,7 +105,7 @@ not_absent (negsuc n) input rest place fits e =
         (first_decimal (suc n) (omega arith) (omega arith)) (digits_decimal own (suc n) (omega arith)) next in
     rw (is_this_again 45 input (decimal (suc n) ++ rest) place e, first) refl
 
--- a number or its absence that is printed is read
+-- a printed number, or the mark of an absent one, is read
 pub optional_long_again : (number : Option ℤ) (input rest : List ℕ) (place : ℕ) → is_long_or_none number ≡ true
     → drop place input ≡ optional_text number ++ rest → digits rest ≡ 0
     → optional_long_at input place ≡ Ok (number, place + length (optional_text number))
@@ -116,18 +116,18 @@ optional_long_again (Some number) input rest place fits e none =
 
 -- ---- no number begins with a space
 
--- no number without sign does
+-- no printed number without a sign begins with a space
 pub unsigned_no_space : (number : ℕ) (rest : List ℕ) → number < 2 ^ 64 → spaces (decimal number ++ rest) ≡ 0
 unsigned_no_space number rest fits =
     text_no_space (decimal number) rest (decimal_nonempty number fits) (digits_decimal own number fits)
 
--- no number with a sign does
+-- no printed number with a sign begins with a space
 pub long_no_space : (number : ℤ) (rest : List ℕ) → is_long number ≡ true → spaces (signed_decimal number ++ rest) ≡ 0
 long_no_space (pos n) rest fits = let small = above_is n fits in unsigned_no_space n rest (omega arith)
 long_no_space (negsuc n) rest fits = let other : 45 ≢ 32 =
     omega arith in no_space_first 45 (decimal (suc n) ++ rest) other
 
--- neither a number nor its absence does
+-- neither a printed number nor the mark of an absent one begins with a space
 pub optional_no_space : (number : Option ℤ) (rest : List ℕ) → is_long_or_none number ≡ true
     → spaces (optional_text number ++ rest) ≡ 0
 optional_no_space None rest fits = let other : 45 ≢ 32 = omega arith in no_space_first 45 rest other

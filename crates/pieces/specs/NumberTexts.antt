@@ -1,8 +1,8 @@
 -- The readers of numbers, at the digits of a printed number.
 use Rattle.std.specs.Prelude.{slice_get, nat_lt}
 use Rattle.std.specs.Fmt.{decimal}
-use Rattle.std.proofs.Common.{inl, inr, ◌≡◌, ℕ, zero, suc, ◌+◌, ◌-◌, ◌*◌, ◌^◌, ◌≤◌, ◌<◌, ◌≢◌, ℤ, pos, negsuc, Bool,
-  true, false, not, cond, ◌&&◌, List, [], ◌∷◌, ◌++◌, length, get_or, drop, None, Ok, refl, sym, ap, ◌∙◌, arith, rules}
+use Rattle.std.proofs.Common.{inl, inr, ◌≡◌, ℕ, zero, suc, ◌+◌, ◌-◌, ◌*◌, ◌^◌, ◌≤◌, ◌<◌, ◌≢◌, pos, negsuc, Bool, true,
+  false, not, cond, List, [], ◌∷◌, ◌++◌, length, get_or, drop, None, Ok, refl, sym, ap, ◌∙◌, arith, rules}
 use Rattle.std.proofs.lemmas.Bool.{cases_Bool, le-ltb, lt-ltb, and_parts, and_from, ltb-true, ltb-false, not-true,
   both_ways, false_from_ne_true}
 use Rattle.std.proofs.lemmas.Fmt.{digits_decimal, digits_value-decimal, decimal_digit, decimal_nonempty, first_decimal}

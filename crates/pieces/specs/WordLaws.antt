@@ -1,7 +1,7 @@
 -- Laws of bytes, words, gaps, marks and the end: what stands at a place is read there, whatever follows it.
 use Rattle.std.specs.Prelude.{slice_get, slice_range}
 use Rattle.std.proofs.Common.{inl, inr, ◌≡◌, ℕ, zero, suc, ◌+◌, ◌-◌, ◌<◌, ◌≤◌, ◌≢◌, ◌==◌, Bool, true, false, cond,
-  List, [], ◌∷◌, ◌++◌, length, get_or, take, drop, Some, Result, Ok, Err, refl, sym, ap, ◌∙◌, arith}
+  List, [], ◌∷◌, ◌++◌, length, get_or, take, drop, Some, Result, Ok, Err, refl, ap, ◌∙◌, arith}
 use Rattle.std.proofs.lemmas.Bool.{false≢true, cases_lt, cases_Bool, eq-eqb, eqb-true, ne_eqb}
 use Rattle.std.proofs.lemmas.List.{take_more, get_or-drop, length-drop}
 use Rattle.std.proofs.lemmas.Option.{slice_get-get_or, slice_get_past}
@@ -25,7 +25,7 @@ stands_first byte (x ∷ xs) rest (suc place) e = stands_first byte xs rest plac
 pub range_none : (input : List ℕ) (at : ℕ) → slice_range input at at ≡ []
 range_none input at = let none : at - at ≡ 0 = omega arith in rw none refl
 
--- one byte more is between a place and the next end
+-- the bytes up to a later place are one more
 pub range_more : (input : List ℕ) (start at : ℕ) → start ≤ at → at < length input
     → slice_range input start (at + 1) ≡ slice_range input start at ++ get_or input at 0 ∷ []
 range_more input start at before lt =
@@ -102,7 +102,7 @@ pub no_space_first : (byte : ℕ) (rest : List ℕ) → byte ≢ 32 → spaces (
 unfolding spaces
 no_space_first byte rest ne = ap (λ (b : Bool). cond b (suc (spaces rest)) 0) (ne_eqb byte 32 ne)
 
--- a space that stands there is a gap
+-- a single space is read as a gap
 pub gap_again : (input rest : List ℕ) (place : ℕ) → drop place input ≡ 32 ∷ rest → spaces rest ≡ 0
     → gap_at input place ≡ Ok (place + 1)
 unfolding spaces
@@ -127,6 +127,6 @@ mark_again byte input rest place e ne none =
     ∙ (ap (λ (r : Result ℕ PieceRefusal). r >>= λ after. Ok (after_spaces input after)) there
     ∙ (ap (λ (n : ℕ). Ok (place + 2 + n)) after ∙ ap Ok three))
 
--- the end is read where nothing is left
+-- the end is read if nothing is left
 pub end_again : (input : List ℕ) (place : ℕ) → place ≡ length input → end_at input place ≡ Ok tt
 end_again input place e = ap (λ (b : Bool). cond b (Ok tt) (Err (Syntax place))) (eq-eqb place (length input) e)

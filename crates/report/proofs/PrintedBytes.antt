@@ -4,17 +4,16 @@ use Rattle.std.specs.Fmt.{decimal, signed_decimal}
 use Rattle.std.specs.List.{flat_map, list_all}
 use Rattle.std.specs.Str.{is_utf8}
 use Rattle.std.proofs.lemmas.Bool.{agree_below_at, and_parts, and_from, cases_lt, ne_eqb, ltb-true, ltb-false, not-true}
-use Rattle.std.proofs.lemmas.Fmt.{digits_decimal}
 use Rattle.std.proofs.lemmas.List.Concat.{flat_map-append}
 use Rattle.std.proofs.lemmas.List.Folds.{list_all-append}
 use Rattle.std.proofs.lemmas.Str.{IsUtf8-append, IsUtf8-nil, IsUtf8-encode, IsUtf8-from_is_utf8, encode_ascii, inside_one}
-use Rattle.std.proofs.lemmas.Str.Parse.{IsNumeralModel, numerals_by_fold}
 use lib.Utf8.{scalar, scalars, encode, encodes, low_scalar}
 use Rattle.hex.specs.Hex.{encode_lower, encode_with, lower_digits}
 use Rattle.pieces.specs.Number.{is_digit, optional_text}
 use Rattle.pieces.specs.Literal.{escape, literal_text}
 use Rattle.pieces.specs.HexLiteral.{hex_text}
-use Rattle.pieces.proofs.NumberLaws.{all_digits, value_on, is_long_or_none}
+use Rattle.pieces.specs.Decimal.{all_digits, is_long_or_none}
+use Rattle.pieces.specs.NumberLaws.{decimal_digits}
 use Rattle.row_types.specs.Fits.{is_long}
 
 -- ---- bytes of a line
@@ -81,13 +80,9 @@ digits_line (byte ∷ text) all =
     let parts = and_parts (is_digit byte) (all_digits text) all in
     plain_then byte text (digit_plain byte parts.0) (digits_line text parts.1)
 
--- these are the library's words for digits and their number
-own : IsNumeralModel (λ ds. all_digits ds ≡ true) (value_on 0)
-own = numerals_by_fold _ (search rules) value_on (search rules)
-
 -- a number without sign
 pub decimal_line : (number : ℕ) → number < 2 ^ 64 → IsLine (decimal number)
-decimal_line number fits = digits_line (decimal number) (digits_decimal own number fits)
+decimal_line number fits = digits_line (decimal number) (decimal_digits number fits)
 
 -- a number with a sign
 pub signed_line : (number : ℤ) → is_long number ≡ true → IsLine (signed_decimal number)

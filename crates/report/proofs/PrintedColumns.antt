@@ -13,15 +13,17 @@ use Rattle.row_types.specs.declared.column.Kind.{Kind}
 use Rattle.row_types.specs.declared.column.Kind.TheVariants as kinds
 use Rattle.row_types.specs.Columns.{IsColumns}
 use Rattle.row_types.specs.Fits.{is_int}
-use Rattle.row_types.proofs.ColumnsLemmas.{not_refused}
+use Rattle.row_types.specs.ColumnsLaws.{columns_accepted}
 use Rattle.pieces.specs.declared.refusal.PieceRefusal.{PieceRefusal}
 use Rattle.pieces.specs.Word.{spaces, one_of, gap_at}
 use Rattle.pieces.specs.Literal.{literal_text}
-use Rattle.pieces.proofs.ManyLaws.{many_from_start}
-use Rattle.pieces.proofs.WordLaws.{AllRefused, differ, all_differ, differ_refused, behind, byte_again, word_again, gap_again, one_of_first}
-use Rattle.pieces.proofs.NumberLaws.{no_digit_first, long_again, long_no_space}
-use Rattle.pieces.proofs.LiteralLaws.{literal_again}
-use Rattle.row_pred.proofs.CellLaws.{number_is_long}
+use Rattle.pieces.specs.ManyLaws.{many_from_start}
+use Rattle.pieces.specs.ChoiceLaws.{AllRefused, differ, all_differ, differ_refused, one_of_first}
+use Rattle.words.specs.Parts.{behind_is}
+use Rattle.pieces.specs.WordLaws.{byte_again, word_again, gap_again}
+use Rattle.pieces.specs.NumberLaws.{no_digit_first, long_again, long_no_space}
+use Rattle.pieces.specs.LiteralLaws.{literal_again}
+use Rattle.row_types.specs.FitsLaws.{number_is_long}
 use Rattle.report.specs.Schema.{kind_words, kind_of, null_words, id_at, kind_at, required_at, before_colon, named_at, column_at, gap_or_end, columns_at, listed, schema_of}
 use Rattle.report.specs.Printed.{kind_text, required_text, column_text, next_column_text, schema_text}
 use Rattle.report.proofs.SchemaLemmas.{item, ColumnsFrom, list_of, column_last, column_more}
@@ -31,12 +33,12 @@ use Rattle.report.proofs.SchemaLemmas.{item, ColumnsFrom, list_of, column_last, 
 -- a part is read with the colon behind it
 colon_again : {X : Type 0} (x : X) (read : Result (X × ℕ) PieceRefusal) (part input rest : List ℕ) (place : ℕ) → drop place input ≡ part ++ 58 ∷ rest → read ≡ Ok (x, place + length part) → before_colon input read ≡ Ok (x, place + length part + 1)
 colon_again x read part input rest place e is =
-    let colon = byte_again 58 input rest (place + length part) (behind part input (58 ∷ rest) place e) in
+    let colon = byte_again 58 input rest (place + length part) (behind_is input place part (58 ∷ rest) e) in
     rw (is, colon) refl
 
 -- what stands behind the colon
 colon_behind : (part input rest : List ℕ) (place : ℕ) → drop place input ≡ part ++ 58 ∷ rest → drop (place + length part + 1) input ≡ rest
-colon_behind part input rest place e = behind (58 ∷ []) input rest (place + length part) (behind part input (58 ∷ rest) place e)
+colon_behind part input rest place e = behind_is input (place + length part) (58 ∷ []) rest (behind_is input place part (58 ∷ rest) e)
 
 -- words that differ from one with a colon behind it are refused there
 others_refused : (words : List (List ℕ)) (word input rest : List ℕ) (place : ℕ) → all_differ words word ≡ true → drop place input ≡ word ++ rest → AllRefused input place words
@@ -52,7 +54,10 @@ word_before_colon words k word input rest place is d e =
     one_of_first words k word input place (place + length word) is (others_refused (take k words) (word ++ 58 ∷ []) input rest place d whole) (word_again word input (58 ∷ rest) place e)
 
 -- a kind by its place among the words
-kind_by : (k : ℕ) (kind : Kind) (input rest : List ℕ) (place : ℕ) → kind_of k ≡ kind → slice_get kind_words k ≡ Some (kind_text kind) → all_differ (take k kind_words) (kind_text kind ++ 58 ∷ []) ≡ true → drop place input ≡ kind_text kind ++ 58 ∷ rest → kind_at input place ≡ Ok (kind, place + length (kind_text kind))
+kind_by : (k : ℕ) (kind : Kind) (input rest : List ℕ) (place : ℕ) → kind_of k ≡ kind
+    → slice_get kind_words k ≡ Some (kind_text kind) → all_differ (take k kind_words)
+    (kind_text kind ++ 58 ∷ []) ≡ true → drop place input ≡ kind_text kind ++ 58 ∷ rest
+    → kind_at input place ≡ Ok (kind, place + length (kind_text kind))
 kind_by k kind input rest place same is d e =
     ap (map_value (λ (word : ℕ × ℕ). (kind_of word.0, word.1))) (word_before_colon kind_words k (kind_text kind) input rest place is d e) ∙ ap (λ (one : Kind). Ok (one, place + length (kind_text kind))) same
 
@@ -154,9 +159,9 @@ columns_again (other ∷ others) column read line at total from fit e =
     let after = at + length (column_text column) in
     let size = left_size line (column_text column ++ 32 ∷ more) at (column_some column (32 ∷ more)) e in
     let parts = length-append (column_text column) (32 ∷ more) in
-    let next : drop after line ≡ 32 ∷ more = behind (column_text column) line (32 ∷ more) at e in
+    let next : drop after line ≡ 32 ∷ more = behind_is line at (column_text column) (32 ∷ more) e in
     let gap = gap_again line more after next (column_no_space other (flat_map next_column_text others) fits_other) in
-    let here : drop (after + 1) line ≡ more = behind (32 ∷ []) line more after next in
+    let here : drop (after + 1) line ≡ more = behind_is line after (32 ∷ []) more next in
     let on = column_more line read (read ++ column ∷ []) at total column after (after + 1) from (omega arith) (column_again column line (32 ∷ more) at fits e) (some_next line after (after + 1) (omega arith) gap) (omega arith) refl in
     columns_again others other (read ++ column ∷ []) line (after + 1) total on fit_others here ∙ ap Ok (append_assoc read (column ∷ []) (other ∷ others))
 
@@ -184,4 +189,4 @@ unfolding schema_of
 schema_again [] right = let some = right.some in absurd (omega arith)
 schema_again (column ∷ others) right =
     let fit : All (λ (one : Column). is_int one.id ≡ true) (column ∷ others) = λ k d lt. id_is_int _ (right.ids k d lt).0 (right.ids k d lt).1 in
-    rw (listed_again column others fit, not_refused (column ∷ others) right) refl
+    rw (listed_again column others fit, columns_accepted (column ∷ others) right) refl

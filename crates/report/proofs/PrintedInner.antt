@@ -20,10 +20,10 @@ use Rattle.row_types.specs.Fits.{fits, fits_row, has_real_bytes, is_int, is_long
 use Rattle.history_types.specs.Fits.{IsRun, AreRuns, FitsRequest, FitsEntry}
 use Rattle.pieces.specs.Number.{optional_text}
 use Rattle.pieces.specs.Literal.{literal_text}
-use Rattle.pieces.proofs.NumberLaws.{is_long_or_none}
+use Rattle.pieces.specs.Decimal.{is_long_or_none}
 use Rattle.row_pred.specs.Cell.{cell_text}
 use Rattle.row_pred.specs.Cells.{spaced_text, cells_text}
-use Rattle.row_pred.proofs.CellLaws.{number_is_long}
+use Rattle.row_types.specs.FitsLaws.{number_is_long}
 use Rattle.history_log.specs.Runs.{run_text, next_run_text, runs_text}
 use Rattle.history_log.specs.Request.{next_row_text, rows_text, next_path_text, request_text}
 use Rattle.history_log.specs.Entry.{spaced, entry_text}

@@ -11,12 +11,13 @@ use Rattle.row_types.specs.Fits.{is_long, IsRow}
 use Rattle.history_types.specs.Fits.{FitsEntry}
 use Rattle.pieces.specs.Word.{spaces, gap_at}
 use Rattle.pieces.specs.Number.{optional_text}
-use Rattle.pieces.proofs.WordLaws.{behind, word_again, gap_again, end_again, no_space_at_end}
-use Rattle.pieces.proofs.NumberLaws.{is_long_or_none, no_digit_first, no_digit_at_end, unsigned_again, long_again, optional_long_again, unsigned_no_space, long_no_space, optional_no_space}
+use Rattle.words.specs.Parts.{behind_is}
+use Rattle.pieces.specs.WordLaws.{word_again, gap_again, end_again, no_space_at_end}
+use Rattle.pieces.specs.Decimal.{is_long_or_none}
+use Rattle.pieces.specs.NumberLaws.{no_digit_first, no_digit_at_end, unsigned_again, long_again, optional_long_again, unsigned_no_space, long_no_space, optional_no_space}
 use Rattle.row_pred.specs.Cells.{cells_text}
-use Rattle.row_pred.proofs.CellsLaws.{cells_again, cells_no_space}
+use Rattle.row_pred.specs.CellsLaws.{cells_again, cells_no_space}
 use Rattle.history_log.specs.Entry.{entry_text, entry_of}
-use Rattle.history_log.proofs.EntryLaws.{entry_again as history_entry_again}
 use Rattle.report.specs.Refusal.{of_history}
 use Rattle.report.specs.Start.{version_at, front_of, rest_of, without_rows, start_of}
 use Rattle.report.specs.Rows.{row_numbers_of, row_cells_of, row_of}
@@ -26,11 +27,11 @@ use Rattle.report.specs.Printed.{start_text, row_text, FitsRow}
 
 -- the space behind a piece is its gap
 space_again : (piece input rest : List ℕ) (place : ℕ) → drop place input ≡ piece ++ 32 ∷ rest → spaces rest ≡ 0 → gap_at input (place + length piece) ≡ Ok (place + length piece + 1)
-space_again piece input rest place e none = gap_again input rest (place + length piece) (behind piece input (32 ∷ rest) place e) none
+space_again piece input rest place e none = gap_again input rest (place + length piece) (behind_is input place piece (32 ∷ rest) e) none
 
 -- what stands behind it
 space_behind : (piece input rest : List ℕ) (place : ℕ) → drop place input ≡ piece ++ 32 ∷ rest → drop (place + length piece + 1) input ≡ rest
-space_behind piece input rest place e = behind (32 ∷ []) input rest (place + length piece) (behind piece input (32 ∷ rest) place e)
+space_behind piece input rest place e = behind_is input (place + length piece) (32 ∷ []) rest (behind_is input place piece (32 ∷ rest) e)
 
 -- a number that is there has 64 bits
 pub long_or_none : (number : Option ℤ) → IfSome number (λ n. is_long n ≡ true) → is_long_or_none number ≡ true
@@ -56,7 +57,10 @@ front_again version rest fits none =
     rw (word, gap, one, two) refl
 
 -- the sequence number and the next id are read behind it
-rest_again : (seq : ℤ) (next : Option ℤ) (line : List ℕ) (place : ℕ) → is_long seq ≡ true → is_long_or_none next ≡ true → drop place line ≡ signed_decimal seq ++ 32 ∷ optional_text next → place + length (signed_decimal seq) + 1 + length (optional_text next) ≡ length line → rest_of line place ≡ Ok (seq, next)
+rest_again : (seq : ℤ) (next : Option ℤ) (line : List ℕ) (place : ℕ) → is_long seq ≡ true
+    → is_long_or_none next ≡ true → drop place line ≡ signed_decimal seq ++ 32 ∷ optional_text next
+    → place + length (signed_decimal seq) + 1 + length (optional_text next) ≡ length line
+    → rest_of line place ≡ Ok (seq, next)
 rest_again seq next line place seq_fits next_fits e size =
     let after = place + length (signed_decimal seq) + 1 in
     let text = optional_text next in
@@ -124,6 +128,7 @@ row_again columns row fits =
 
 -- ---- an entry
 
--- what is printed of an entry is read as it
-pub entry_again : (columns : List Column) (entry : Entry) → FitsEntry columns entry → map_refusal of_history (entry_of columns (entry_text entry)) ≡ Ok entry
-entry_again columns entry fits = rw (history_entry_again columns entry fits) refl
+-- an entry that is read is read in its line
+pub entry_again : (columns : List Column) (entry : Entry) → entry_of columns (entry_text entry) ≡ Ok entry
+    → map_refusal of_history (entry_of columns (entry_text entry)) ≡ Ok entry
+entry_again columns entry read = rw read refl

@@ -22,7 +22,7 @@ use Rattle.report.specs.Start.{without_rows, start_of}
 use Rattle.report.specs.Rows.{joined}
 use Rattle.report.specs.Lines.{begun, line_read}
 use Rattle.report.specs.Report.{at_line, report_behind, report_of}
-use Rattle.report.specs.Printed.{schema_text, start_text, row_text, Told, lined, report_text, HasTexts, FitsRow, IsTold, all_joined, start_told}
+use Rattle.report.specs.Printed.{schema_text, start_text, row_text, Told, lined, report_text, HasTexts, FitsRow, IsTold, IsReadBack, all_joined, start_told}
 use Rattle.report.proofs.PrintedBytes.{is_inner, IsLine, plain_line}
 use Rattle.report.proofs.PrintedInner.{schema_is_line, start_is_line, row_is_line, entry_is_line}
 use Rattle.report.proofs.PrintedColumns.{schema_again}
@@ -71,10 +71,11 @@ unfolding line_read
 row_read columns start after row fit put = rw (text_of (row_text row) (row_is_line columns row fit), row_again columns row fit, put) refl
 
 -- the line of an entry
-entry_read : (columns : List Column) (start : State) (before : List Entry) (entry : Entry) → FitsEntry columns entry → HasTexts entry.request
+entry_read : (columns : List Column) (start : State) (before : List Entry) (entry : Entry) → FitsEntry columns entry → HasTexts entry.request → IsReadBack entry
     → line_read (Body (record { columns = columns; start = start; entries = before })) (entry_text entry) ≡ Ok (Body (record { columns = columns; start = start; entries = before ++ entry ∷ [] }))
 unfolding line_read
-entry_read columns start before entry fit texts = rw (text_of (entry_text entry) (entry_is_line columns entry fit texts), entry_again columns entry fit) refl
+entry_read columns start before entry fit texts back =
+    rw (text_of (entry_text entry) (entry_is_line columns entry fit texts), entry_again columns entry (back columns fit)) refl
 
 -- the last line
 end_read : (report : Report) → line_read (Body report) (codes "end") ≡ Ok (Ended report)
@@ -107,19 +108,20 @@ abbrev MayTell : List Column → Entry → Type 0
 MayTell columns entry = FitsEntry columns entry × HasTexts entry.request
 
 -- entries, where what follows them is known from any number on
-entries_again : (entries : List Entry) (number : ℕ) (columns : List Column) (start : State) (before : List Entry) (rest : List ℕ) (total : Result Report ReportRefusal) → All (MayTell columns) entries
+entries_again : (entries : List Entry) (number : ℕ) (columns : List Column) (start : State) (before : List Entry) (rest : List ℕ) (total : Result Report ReportRefusal) → All (MayTell columns) entries → All IsReadBack entries
     → ((n : ℕ) → report_behind n (Body (record { columns = columns; start = start; entries = before ++ entries })) [] rest ≡ total)
     → report_behind number (Body (record { columns = columns; start = start; entries = before })) [] (flat_map (λ (entry : Entry). lined (entry_text entry)) entries ++ rest) ≡ total
-entries_again [] number columns start before rest total fit follow =
+entries_again [] number columns start before rest total fit back follow =
     ap (λ (list : List Entry). report_behind number (Body (record { columns = columns; start = start; entries = list })) [] rest) (sym (append-nil before)) ∙ follow number
-entries_again (entry ∷ entries) number columns start before rest total fit follow =
+entries_again (entry ∷ entries) number columns start before rest total fit back follow =
     let one = All-head (MayTell columns) entry entries fit in
+    let read = All-head IsReadBack entry entries back in
     let others = flat_map (λ (entry : Entry). lined (entry_text entry)) entries in
     let now : Stage = Body (record { columns = columns; start = start; entries = before }) in
     let then_stage : Stage = Body (record { columns = columns; start = start; entries = before ++ entry ∷ [] }) in
     ap (report_behind number now []) (append_assoc (lined (entry_text entry)) others rest)
-    ∙ (line_again number now then_stage (entry_text entry) (others ++ rest) (entry_is_line columns entry one.0 one.1) (entry_read columns start before entry one.0 one.1)
-    ∙ entries_again entries (number + 1) columns start (before ++ entry ∷ []) rest total (All-tail (MayTell columns) entry entries fit) (λ n.
+    ∙ (line_again number now then_stage (entry_text entry) (others ++ rest) (entry_is_line columns entry one.0 one.1) (entry_read columns start before entry one.0 one.1 read)
+    ∙ entries_again entries (number + 1) columns start (before ++ entry ∷ []) rest total (All-tail (MayTell columns) entry entries fit) (All-tail IsReadBack entry entries back) (λ n.
     ap (λ (list : List Entry). report_behind n (Body (record { columns = columns; start = start; entries = list })) [] rest) (append_assoc before (entry ∷ []) entries) ∙ follow n))
 
 -- the end
@@ -130,9 +132,9 @@ end_again number report = line_again number (Body report) (Ended report) (codes 
 -- ---- the whole
 
 -- what is told is printed and read again
-pub report_again : (told : Told) (start : State) → IsTold told → start_told told ≡ Ok start → report_of (report_text told) ≡ Ok (record { columns = told.columns; start = start; entries = told.entries })
+pub report_again : (told : Told) (start : State) → IsTold told → All IsReadBack told.entries → start_told told ≡ Ok start → report_of (report_text told) ≡ Ok (record { columns = told.columns; start = start; entries = told.entries })
 unfolding report_of
-report_again told start is put =
+report_again told start is back put =
     let columns = told.columns in
     let begin = without_rows (told.version, told.seq, told.next) in
     let rows = flat_map (λ (row : Row). lined (row_text row)) told.rows in
@@ -145,7 +147,7 @@ report_again told start is put =
     line_again 1 Nothing (Schema columns) (schema_text columns) (lined first ++ (rows ++ (entries ++ end))) schema_line (schema_read columns is.columns schema_line)
     ∙ (line_again 2 (Schema columns) (Body (begun columns begin)) first (rows ++ (entries ++ end)) start_line (start_read columns first begin start_line (start_again told.version told.seq told.next is.version is.seq next_fits))
     ∙ rows_again told.rows 3 columns begin start (entries ++ end) (Ok (record { columns = columns; start = start; entries = told.entries })) is.rows put (λ n.
-    entries_again told.entries n columns start [] end (Ok (record { columns = columns; start = start; entries = told.entries })) is.entries (λ m. end_again m (record { columns = columns; start = start; entries = told.entries }))))
+    entries_again told.entries n columns start [] end (Ok (record { columns = columns; start = start; entries = told.entries })) is.entries back (λ m. end_again m (record { columns = columns; start = start; entries = told.entries }))))
 
 -- five pieces one behind the other
 regroup : (a b c d e : List ℕ) → (((a ++ b) ++ c) ++ d) ++ e ≡ a ++ (b ++ (c ++ (d ++ e)))

@@ -14,7 +14,8 @@ pub put_taken : (state : State) (id : ℤ) (row other : UnnamedRow) (found : Opt
 put_taken state id row other found is = sym (ap (put_at state id row) is)
 
 -- no row has the id
-pub put_free : (state : State) (id : ℤ) (row : UnnamedRow) (rows : List NamedRow) (found : Option UnnamedRow) → None ≡ found → rows ≡ with_row state.rows id row → put_at state id row found ≡ Ok (record { version = state.version; unnamed = state.unnamed; rows = rows; next = state.next; seq = state.seq })
+pub put_free : (state : State) (id : ℤ) (row : UnnamedRow) (rows : List NamedRow) (found : Option UnnamedRow) → None ≡ found → rows ≡ with_row state.rows id row
+    → put_at state id row found ≡ Ok (record { version = state.version; unnamed = state.unnamed; rows = rows; next = state.next; seq = state.seq })
 put_free state id row rows found is now = rw (now, sym is) refl
 
 -- a row with an id is put there

@@ -6,7 +6,7 @@ use Rattle.row_types.specs.declared.column.Kind.{Kind}
 use Rattle.pieces.specs.declared.refusal.PieceRefusal.{PieceRefusal}
 use Rattle.pieces.specs.Word.{one_of}
 use Rattle.pieces.specs.Many.{Item}
-use Rattle.pieces.proofs.ManyLaws.{ManyFrom, many_on, many_done, many_refused, many_stopped}
+use Rattle.pieces.specs.ManyLaws.{ManyFrom, many_on, many_done, many_refused, many_stopped}
 use Rattle.report.specs.Schema.{kind_words, kind_of, kind_at, column_at, gap_or_end}
 
 -- a word of a kind was read
@@ -37,16 +37,24 @@ column_refused line list at total refusal from within one =
     ap list_of (many_refused (item line) (gap_or_end line) (length line) list at total refusal from within one)
 
 -- what stands behind the next column is refused
-pub column_stopped : (line : List ℕ) (list : List Column) (at : ℕ) (total : Result (List Column × ℕ) PieceRefusal) (column : Column) (after : ℕ) (refusal : PieceRefusal) → ColumnsFrom line list at total → at ≤ length line → column_at line at ≡ Ok (column, after) → Err refusal ≡ gap_or_end line after → list_of total ≡ Err refusal
+pub column_stopped : (line : List ℕ) (list : List Column) (at : ℕ) (total : Result (List Column × ℕ) PieceRefusal)
+    (column : Column) (after : ℕ) (refusal : PieceRefusal) → ColumnsFrom line list at total → at ≤ length line
+    → column_at line at ≡ Ok (column, after) → Err refusal ≡ gap_or_end line after → list_of total ≡ Err refusal
 column_stopped line list at total column after refusal from within one next =
     ap list_of (many_stopped (item line) (gap_or_end line) (length line) list at total column after refusal from within one (sym next))
 
 -- the next column is the last one
-pub column_last : (line : List ℕ) (list now : List Column) (at : ℕ) (total : Result (List Column × ℕ) PieceRefusal) (column : Column) (after : ℕ) → ColumnsFrom line list at total → at ≤ length line → column_at line at ≡ Ok (column, after) → Ok None ≡ gap_or_end line after → now ≡ list ++ column ∷ [] → list_of total ≡ Ok now
+pub column_last : (line : List ℕ) (list now : List Column) (at : ℕ) (total : Result (List Column × ℕ) PieceRefusal)
+    (column : Column) (after : ℕ) → ColumnsFrom line list at total → at ≤ length line
+    → column_at line at ≡ Ok (column, after) → Ok None ≡ gap_or_end line after → now ≡ list ++ column ∷ []
+    → list_of total ≡ Ok now
 column_last line list now at total column after from within one next grown =
     rw grown (ap list_of (many_done (item line) (gap_or_end line) (length line) list at total column after from within one (sym next)))
 
 -- another one follows the next column
-pub column_more : (line : List ℕ) (list now : List Column) (at : ℕ) (total : Result (List Column × ℕ) PieceRefusal) (column : Column) (after start : ℕ) → ColumnsFrom line list at total → at ≤ length line → column_at line at ≡ Ok (column, after) → Ok (Some start) ≡ gap_or_end line after → at < start → now ≡ list ++ column ∷ [] → ColumnsFrom line now start total
+pub column_more : (line : List ℕ) (list now : List Column) (at : ℕ) (total : Result (List Column × ℕ) PieceRefusal)
+    (column : Column) (after start : ℕ) → ColumnsFrom line list at total → at ≤ length line
+    → column_at line at ≡ Ok (column, after) → Ok (Some start) ≡ gap_or_end line after → at < start
+    → now ≡ list ++ column ∷ [] → ColumnsFrom line now start total
 column_more line list now at total column after start from within one next further grown =
     rw grown (many_on (item line) (gap_or_end line) (length line) list at total column after start from within one (sym next) further)

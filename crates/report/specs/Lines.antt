@@ -28,16 +28,20 @@ with_start report start = record { columns = report.columns; start = start; entr
 
 -- a report with one more entry
 abbrev pub with_entry : Report → Entry → Report
-with_entry report entry = record { columns = report.columns; start = report.start; entries = report.entries ++ entry ∷ [] }
+with_entry report entry =
+    record { columns = report.columns; start = report.start; entries = report.entries ++ entry ∷ [] }
 
 -- the line of a row; none stands behind an entry
 abbrev pub row_line : Report → List Entry → List ℕ → Result Stage LineRefusal
-row_line report [] line = row_of report.columns line >>= λ row. joined report.start row row.id >>= λ start. Ok (Body (with_start report start))
+row_line report [] line =
+    row_of report.columns line >>= λ row. joined report.start row row.id >>= λ start.
+    Ok (Body (with_start report start))
 row_line report (entry ∷ entries) line = Err Wrong
 
 -- the line of an entry
 abbrev pub entry_line : Report → List ℕ → Result Stage LineRefusal
-entry_line report line = map_refusal of_history (entry_of report.columns line) >>= λ entry. Ok (Body (with_entry report entry))
+entry_line report line =
+    map_refusal of_history (entry_of report.columns line) >>= λ entry. Ok (Body (with_entry report entry))
 
 -- a line between the state at the start and the end
 abbrev pub body_line : Report → List ℕ → Result Stage LineRefusal

@@ -1,5 +1,7 @@
--- The one text that a report is printed as: a line for the columns, one for the state at the start, one for each of its rows, one for each entry, and the end.
-use Rattle.std.specs.Prelude.{◌≡◌, ◌<◌, ℕ, ℤ, Bool, true, IfSome, All, List, [], ◌∷◌, ◌++◌, Option, Result, Ok, codes, decimal, if◌then◌else◌}
+-- The one text that a report is printed as: a line for the columns, one for the state at the start, one for each
+-- of its rows, one for each entry, and the end.
+use Rattle.std.specs.Prelude.{◌≡◌, ◌<◌, ℕ, ℤ, Bool, true, IfSome, All, List, [], ◌∷◌, ◌++◌, Option, Result, Ok, codes,
+  decimal, if◌then◌else◌}
 use Rattle.std.specs.Fmt.{signed_decimal}
 use Rattle.std.specs.List.{flat_map, list_all}
 use Rattle.std.specs.Str.{is_utf8}
@@ -20,7 +22,7 @@ use Rattle.history_types.specs.Fits.{FitsEntry}
 use Rattle.pieces.specs.Number.{optional_text}
 use Rattle.pieces.specs.Literal.{literal_text}
 use Rattle.row_pred.specs.Cells.{cells_text}
-use Rattle.history_log.specs.Entry.{entry_text}
+use Rattle.history_log.specs.Entry.{entry_text, entry_of}
 use Rattle.report.specs.declared.refusal.LineRefusal.{LineRefusal}
 use Rattle.report.specs.Start.{without_rows}
 use Rattle.report.specs.Rows.{joined}
@@ -45,7 +47,9 @@ required_text required = if required then codes "required" else codes "optional"
 
 -- a column, with colons between its parts
 abbrev pub column_text : Column → List ℕ
-column_text column = signed_decimal column.id ++ (codes ":" ++ (kind_text column.kind ++ (codes ":" ++ (required_text column.required ++ (codes ":" ++ literal_text column.name)))))
+column_text column =
+    signed_decimal column.id ++ (codes ":" ++ (kind_text column.kind ++ (codes ":"
+    ++ (required_text column.required ++ (codes ":" ++ literal_text column.name)))))
 
 -- a column behind the word or another one
 abbrev pub next_column_text : Column → List ℕ
@@ -57,15 +61,19 @@ schema_text columns = codes "schema" ++ flat_map next_column_text columns
 
 -- the line of the state at the start, without its rows
 abbrev pub start_text : ℕ → ℤ → Option ℤ → List ℕ
-start_text version seq next = codes "start " ++ (decimal version ++ (codes " " ++ (signed_decimal seq ++ (codes " " ++ optional_text next))))
+start_text version seq next =
+    codes "start " ++ (decimal version ++ (codes " " ++ (signed_decimal seq ++ (codes " " ++ optional_text next))))
 
 -- the line of a row
 abbrev pub row_text : Row → List ℕ
-row_text row = codes "row " ++ (optional_text row.id ++ (codes " " ++ (signed_decimal row.last ++ (codes " " ++ cells_text row.cells))))
+row_text row =
+    codes "row "
+    ++ (optional_text row.id ++ (codes " " ++ (signed_decimal row.last ++ (codes " " ++ cells_text row.cells))))
 
 -- ---- the whole
 
--- what a report tells: the columns, the version, the sequence number, the next id and the rows of the state at the start, and the entries
+-- what a report tells: the columns, the version, the sequence number, the next id and the rows of the state
+-- at the start, and the entries
 pub record Told : Type 0 where
   pub columns : List Column
   pub version : ℕ
@@ -118,6 +126,10 @@ pub record IsTold (told : Told) : Type 0 where
   pub next : IfSome told.next (λ next. is_long next ≡ true)
   pub rows : All (FitsRow told.columns) told.rows
   pub entries : All (λ entry. FitsEntry told.columns entry × HasTexts entry.request) told.entries
+
+-- the text of an entry about a table is read as the entry
+abbrev pub IsReadBack : Entry → Type 0
+IsReadBack entry = (columns : List Column) → FitsEntry columns entry → entry_of columns (entry_text entry) ≡ Ok entry
 
 -- a state that the rows join, one behind the other; refused where two have one id
 unfoldable pub all_joined : State → List Row → Result State LineRefusal

@@ -23,7 +23,8 @@ finished number Nothing line = Err (Line number)
 finished number (Schema columns) line = Err (Line number)
 finished number (Body report) line = Err (Line number)
 
--- the report of the bytes behind those that were read: the number of the line, what stands before it, and its bytes so far
+-- the report of the bytes behind those that were read: the number of the line, what stands before it,
+-- and its bytes so far
 unfoldable pub report_behind : ℕ → Stage → List ℕ → List ℕ → Result Report ReportRefusal
 report_behind number stage line [] = finished number stage line
 report_behind number stage line (byte ∷ bytes) =

@@ -25,7 +25,8 @@ row_numbers_of line =
 -- the cells of the line, which end it
 abbrev pub row_cells_of : List Column → List ℕ → ℕ → Result (List Cell) LineRefusal
 row_cells_of columns line start =
-    map_refusal of_cells (cells_at columns line start) >>= λ cells. map_refusal of_piece (end_at line cells.1) >>= λ done. Ok cells.0
+    map_refusal of_cells (cells_at columns line start) >>= λ cells.
+    map_refusal of_piece (end_at line cells.1) >>= λ done. Ok cells.0
 
 -- a row of these numbers and cells
 abbrev pub row_with : Option ℤ × ℤ × ℕ → List Cell → Row
@@ -33,14 +34,28 @@ row_with (id, last, start) cells = record { id = id; last = last; cells = cells 
 
 -- the row of the line
 unfoldable pub row_of : List Column → List ℕ → Result Row LineRefusal
-row_of columns line = map_refusal of_piece (row_numbers_of line) >>= λ numbers. row_cells_of columns line numbers.2 >>= λ cells. Ok (row_with numbers cells)
+row_of columns line =
+    map_refusal of_piece (row_numbers_of line) >>= λ numbers.
+    row_cells_of columns line numbers.2 >>= λ cells. Ok (row_with numbers cells)
 
 -- a row at its id, where no row has it
 abbrev pub put_at : State → ℤ → UnnamedRow → Option UnnamedRow → Result State LineRefusal
-put_at state id row None = Ok (record { version = state.version; unnamed = state.unnamed; rows = with_row state.rows id row; next = state.next; seq = state.seq })
+put_at state id row None = Ok (record {
+  version = state.version;
+  unnamed = state.unnamed;
+  rows = with_row state.rows id row;
+  next = state.next;
+  seq = state.seq;
+})
 put_at state id row (Some other) = Err Wrong
 
 -- the row joins the state: at its id, or behind the rows without one
 abbrev pub joined : State → Row → Option ℤ → Result State LineRefusal
-joined state row None = Ok (record { version = state.version; unnamed = state.unnamed ++ (row.last, row.cells) ∷ []; rows = state.rows; next = state.next; seq = state.seq })
+joined state row None = Ok (record {
+  version = state.version;
+  unnamed = state.unnamed ++ (row.last, row.cells) ∷ [];
+  rows = state.rows;
+  next = state.next;
+  seq = state.seq;
+})
 joined state row (Some id) = put_at state id (row.last, row.cells) (row_at state.rows id)

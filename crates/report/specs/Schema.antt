@@ -1,5 +1,6 @@
 -- The line of the columns: the word, and a column behind each space.
-use Rattle.std.specs.Prelude.{Bool, ℕ, zero, suc, ◌+◌, ◌==◌, ℤ, List, [], ◌∷◌, length, Option, Some, None, Result, Ok, Err, codes, if◌then◌else◌}
+use Rattle.std.specs.Prelude.{Bool, ℕ, zero, suc, ◌+◌, ◌==◌, ℤ, List, [], ◌∷◌, length, Option, Some, None, Result, Ok,
+  Err, codes, if◌then◌else◌}
 use Rattle.words.specs.Reading.{◌>>=◌, map_refusal, map_value}
 use Rattle.row_types.specs.declared.column.Column.{Column}
 use Rattle.row_types.specs.declared.column.Kind.{Kind}
@@ -18,7 +19,9 @@ use Rattle.report.specs.Start.{word_and_gap}
 
 -- the words of the kinds; of two that begin alike the longer one is looked for first
 abbrev pub kind_words : List (List ℕ)
-kind_words = codes "boolean" ∷ codes "int" ∷ codes "long" ∷ codes "date" ∷ codes "timestamptz" ∷ codes "timestamp" ∷ codes "time" ∷ codes "string" ∷ codes "binary" ∷ []
+kind_words =
+    codes "boolean" ∷ codes "int" ∷ codes "long" ∷ codes "date" ∷ codes "timestamptz" ∷ codes "timestamp"
+    ∷ codes "time" ∷ codes "string" ∷ codes "binary" ∷ []
 
 -- the kind of a word, by its place among them
 abbrev pub kind_of : ℕ → Kind
@@ -54,7 +57,9 @@ before_colon input read = read >>= λ piece. byte_at 58 input piece.1 >>= λ sta
 
 -- the name of a column, as a literal, behind the others
 abbrev pub named_at : List ℕ → ℤ → Kind → Bool → ℕ → Result (Column × ℕ) PieceRefusal
-named_at input id kind required place = map_value (λ name. (record { id = id; name = name.0; kind = kind; required = required }, name.1)) (literal_at input place)
+named_at input id kind required place =
+    map_value (λ name. (record { id = id; name = name.0; kind = kind; required = required }, name.1))
+    (literal_at input place)
 
 -- a column: its id, its kind, whether it is required, and its name, with colons between them
 abbrev pub column_at : List ℕ → ℕ → Result (Column × ℕ) PieceRefusal
@@ -66,7 +71,8 @@ column_at input place =
 
 -- whether the line ends here, or where the next column begins
 abbrev pub gap_or_end : List ℕ → ℕ → Result (Option ℕ) PieceRefusal
-gap_or_end input place = if place == length input then Ok None else map_value (λ start. Some start) (gap_at input place)
+gap_or_end input place =
+    if place == length input then Ok None else map_value (λ start. Some start) (gap_at input place)
 
 -- columns from the place to the end of the line, with gaps between them
 abbrev pub columns_at : List ℕ → ℕ → Result (List Column × ℕ) PieceRefusal

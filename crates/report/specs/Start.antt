@@ -19,11 +19,15 @@ word_and_gap word input = word_at word input 0 >>= λ after. gap_at input after
 
 -- the version of the line, and where what follows it begins
 abbrev pub front_of : List ℕ → Result (ℕ × ℕ) PieceRefusal
-front_of line = word_and_gap (codes "start") line >>= λ start. version_at line start >>= λ version. gap_at line version.1 >>= λ start. Ok (version.0, start)
+front_of line =
+    word_and_gap (codes "start") line >>= λ start. version_at line start >>= λ version.
+    gap_at line version.1 >>= λ start. Ok (version.0, start)
 
 -- the sequence number and the next id, which end the line
 abbrev pub rest_of : List ℕ → ℕ → Result (ℤ × Option ℤ) PieceRefusal
-rest_of line start = long_at line start >>= λ seq. gap_at line seq.1 >>= λ start. optional_long_at line start >>= λ next. end_at line next.1 >>= λ done. Ok (seq.0, next.0)
+rest_of line start =
+    long_at line start >>= λ seq. gap_at line seq.1 >>= λ start.
+    optional_long_at line start >>= λ next. end_at line next.1 >>= λ done. Ok (seq.0, next.0)
 
 -- the numbers of the line
 abbrev pub numbers_of : List ℕ → Result (ℕ × ℤ × Option ℤ) PieceRefusal

@@ -1,6 +1,6 @@
 //! Reports as they are printed.
 
-ghost use Rattle.std.specs.Prelude.{◌≡◌, ◌++◌, List, [], codes, decimal, IfOk, OnOk, Ok};
+ghost use Rattle.std.specs.Prelude.{◌≡◌, ◌++◌, All, List, [], codes, decimal, IfOk, OnOk, Ok};
 ghost use Rattle.std.specs.Fmt.{signed_decimal};
 ghost use Rattle.std.specs.List.{flat_map};
 ghost use Rattle.std.specs.String.{string_bytes};
@@ -9,7 +9,7 @@ ghost use Rattle.row_types.specs.Columns.{IsColumns};
 ghost use Rattle.history_log.specs.Entry.{entry_text};
 ghost use Rattle.report.specs.Schema.{schema_of};
 ghost use Rattle.report.specs.Report.{report_of};
-ghost use Rattle.report.specs.Printed.{kind_text, required_text, column_text, next_column_text, schema_text, start_text, row_text, Told, lined, report_text, IsTold, start_told};
+ghost use Rattle.report.specs.Printed.{kind_text, required_text, column_text, next_column_text, schema_text, start_text, row_text, Told, lined, report_text, IsTold, IsReadBack, start_told};
 
 use avro_wire::Text;
 use history_log::print_entry;
@@ -206,8 +206,9 @@ fn put_row(out: &mut String, row: &Row) -> Result<(), AllocError>
 
 /// Puts the lines of the entries behind `out`.
 fn put_entries(alloc: Global, out: &mut String, entries: &[Entry]) -> Result<(), AllocError>
-    ensures { OnOk result (string_bytes out.new
+    ensures text { OnOk result (string_bytes out.new
         ≡ string_bytes out.old ++ flat_map (λ entry. lined (entry_text entry)) entries.now) }
+    ensures reads_back { OnOk result (All IsReadBack entries.now) }
 {
     for entry in entries {
         put_entry(alloc, out, entry)?;
@@ -218,7 +219,9 @@ fn put_entries(alloc: Global, out: &mut String, entries: &[Entry]) -> Result<(),
 
 /// Puts the line of the entry behind `out`, without LF.
 fn put_entry(alloc: Global, out: &mut String, entry: &Entry) -> Result<(), AllocError>
-    ensures { OnOk result (string_bytes out.new ≡ string_bytes out.old ++ entry_text entry.now) }
+    ensures text { OnOk result (string_bytes out.new
+        ≡ string_bytes out.old ++ entry_text entry.now) }
+    ensures reads_back { OnOk result (IsReadBack entry.now) }
 {
     let text = print_entry(alloc, entry)?;
     out.push_str(text.as_str())

@@ -1,6 +1,6 @@
 -- Laws of a cell: a printed cell is read, if no digit follows it.
-use Rattle.std.proofs.Common.{◌≡◌, ◌≢◌, ℕ, suc, ◌+◌, ◌-◌, ◌^◌, ◌<◌, ◌≤◌, ℤ, pos, negsuc, Bool, true, false, not, ◌&&◌,
-  is_some, codes, if◌then◌else◌, List, [], ◌∷◌, ◌++◌, length, drop, Some, Ok, refl, ap, arith, rules}
+use Rattle.std.proofs.Common.{◌≡◌, ◌≢◌, ℕ, suc, ◌+◌, ◌^◌, ◌<◌, ℤ, pos, negsuc, Bool, true, false, not, ◌&&◌, is_some,
+  codes, if◌then◌else◌, List, [], ◌∷◌, ◌++◌, length, drop, Some, Ok, refl, ap, arith}
 use Rattle.std.specs.Prelude.{slice_get, nat_lt}
 use Rattle.std.specs.Fmt.{decimal, signed_decimal}
 use Rattle.std.specs.List.{flat_map}
@@ -27,7 +27,7 @@ use Rattle.row_pred.specs.Cell.{cell_text, cell_words, begins_number, any_cell_a
 
 -- ---- what stands behind a cell
 
--- it goes on with no cell: it begins with no digit, and with no hexadecimal one
+-- the text begins with no digit, decimal or hexadecimal
 abbrev pub stops : List ℕ → Bool
 stops [] = true
 stops (byte ∷ rest) = not (is_digit byte) && not (is_some (hex_digit byte))
@@ -133,7 +133,7 @@ fitted_again column (Num number) place after fit = rw fit refl
 fitted_again column (Text text) place after fit = rw fit refl
 fitted_again column (Bytes bytes) place after fit = rw fit refl
 
--- a cell of the column is read
+-- a printed cell is read, by its column
 pub cell_again : (column : Column) (cell : Cell) (input rest : List ℕ) (place : ℕ) → fits column cell ≡ true
     → has_real_bytes cell ≡ true → drop place input ≡ cell_text cell ++ rest → stops rest ≡ true
     → cell_at column input place ≡ Ok (cell, place + length (cell_text cell))
@@ -142,7 +142,7 @@ cell_again column cell input rest place fit real e s =
     rw (any_cell_again column cell input rest place fit real e s)
         (fitted_again column cell place (place + length (cell_text cell)) fit)
 
--- no space begins a cell
+-- no printed cell begins with a space
 pub cell_no_space : (column : Column) (cell : Cell) (rest : List ℕ) → fits column cell ≡ true
     → spaces (cell_text cell ++ rest) ≡ 0
 cell_no_space column Null rest fit = let ne : 110 ≢ 32 = omega arith in no_space_first 110 (codes "ull" ++ rest) ne

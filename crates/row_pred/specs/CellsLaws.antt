@@ -50,7 +50,7 @@ others_again first read (column ∷ columns) (cell ∷ cells) input rest place f
         (flat_map spaced_text cells) = omega (arith, length-append (cell_text cell) (flat_map spaced_text cells)) in
     rw (gap, one, others, append_assoc read (cell ∷ []) cells, size) refl
 
--- the cells of a row are read
+-- the printed cells of a row are read
 pub cells_again : (columns : List Column) (cells : List Cell) (input rest : List ℕ) (place : ℕ) → IsRow columns cells
     → drop place input ≡ cells_text cells ++ rest → stops rest ≡ true
     → cells_at columns input place ≡ Ok (cells, place + length (cells_text cells))
@@ -74,7 +74,7 @@ cells_again (column ∷ columns) (cell ∷ cells) input rest place row e s =
         (flat_map spaced_text cells) = omega (arith, length-append (cell_text cell) (flat_map spaced_text cells)) in
     rw (one, others, size) refl
 
--- no space begins the cells of a row
+-- no printed row begins with a space
 pub cells_no_space : (columns : List Column) (cells : List Cell) (rest : List ℕ) → fits_row columns cells ≡ true
     → spaces rest ≡ 0 → spaces (cells_text cells ++ rest) ≡ 0
 unfolding fits_row
@@ -95,7 +95,7 @@ row_again columns cells row =
     let size : 0 + length (cells_text cells) ≡ length (cells_text cells) = omega arith in
     rw (read, end_again (cells_text cells) (0 + length (cells_text cells)) size) refl
 
--- so is a text that is that of the row
+-- so is a text that equals the printed row
 pub text_again : (columns : List Column) (cells : List Cell) (text : List ℕ) → text ≡ cells_text cells
     → IsRow columns cells → cells_of columns text ≡ Ok cells
 text_again columns cells text is row = ap (cells_of columns) is ∙ row_again columns cells row

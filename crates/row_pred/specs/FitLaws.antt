@@ -75,7 +75,7 @@ fitted_fits column place (Some (Text text), after) real =
 fitted_fits column place (Some (Bytes bytes), after) real =
     if_passed (MayStand column) (fits column (Bytes bytes)) (Bytes bytes, after) (Misfit place) (λ fit. (fit, real))
 
--- a cell of a column may stand in it
+-- the cell that is read for a column may stand in it
 pub cell_fits : (column : Column) (input : List ℕ) (place : ℕ) → IfOk (cell_at column input place) (MayStand column)
 unfolding cell_at
 cell_fits column input place =
@@ -120,7 +120,7 @@ cells_fit_behind (column ∷ columns) read input place =
         (IsRowBehind read (column ∷ columns)) (λ cells. behind_cell read column columns cell cells may)
         (cells_fit_behind columns (read ++ cell.0 ∷ []) input cell.1)))
 
--- the cells of a row are one
+-- the cells that are read are a row of the columns
 pub cells_fit : (columns : List Column) (input : List ℕ) (place : ℕ) → IfOk (cells_at columns input place)
     (λ cells. IsRow columns cells.0)
 cells_fit columns input place =

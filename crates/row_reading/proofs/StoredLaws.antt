@@ -12,7 +12,7 @@ use Rattle.row_types.specs.declared.row.StoredRow.{StoredRow}
 use Rattle.schema_tree.specs.declared.schema.Schema.{Schema}
 use Rattle.avro_schema.specs.Meaning.{IsSchemaText}
 use Rattle.avro_schema.specs.Reading.{schema_of}
-use Rattle.avro_schema.proofs.MeansText.{schema_found, schema_only}
+use Rattle.avro_schema.proofs.TextMeaning.{schema_found, schema_only}
 use Rattle.avro_container.specs.declared.container.Container.{Container}
 use Rattle.avro_container.specs.Header.{Pair, has_key, bound_to, schema_key}
 use Rattle.avro_container.specs.Container.{container_at, most_bytes}

@@ -5,8 +5,8 @@ use Rattle.std.specs.Bool.{Decides}
 use Rattle.std.specs.List.{list_any}
 use Rattle.std.specs.Ordering.{int_eq}
 use Rattle.std.specs.Str.{bytes_eq}
-use Rattle.std.proofs.Common.{◌≡◌, ◌≢◌, ℕ, zero, suc, ◌<◌, ◌≤◌, ℤ, ◌≤ℤ◌, Bool, true, false, List, [], ◌∷◌, ◌++◌,
-  length, get_or, take, refl, ◌∙◌, arith, Ok, append_assoc, append-nil}
+use Rattle.std.proofs.Common.{◌≡◌, ◌≢◌, ℕ, suc, ◌<◌, ℤ, ◌≤ℤ◌, Bool, false, List, [], ◌∷◌, ◌++◌, length, get_or, take,
+  refl, ◌∙◌, arith, Ok, append_assoc, append-nil}
 use Rattle.std.proofs.lemmas.Bool.{or_from, le-ltb, false_from_ne_true}
 use Rattle.std.proofs.lemmas.Bool.Decides.{Decides-int_eq}
 use Rattle.std.proofs.lemmas.Int.{ints}

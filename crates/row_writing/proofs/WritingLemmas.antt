@@ -18,7 +18,7 @@ use Rattle.datum_tree.specs.Spelling.{IsEncoding}
 use Rattle.avro_schema.specs.Printable.{IsPrintable}
 use Rattle.avro_schema.specs.Printing.{schema_text}
 use Rattle.avro_schema.specs.Reading.{schema_of}
-use Rattle.avro_schema.proofs.MeansText.{schema_found}
+use Rattle.avro_schema.proofs.TextMeaning.{schema_found}
 use Rattle.avro_container.specs.declared.container.Block.{Block}
 use Rattle.avro_container.specs.declared.container.Container.{Container}
 use Rattle.avro_container.specs.Header.{schema_key, codec_key}

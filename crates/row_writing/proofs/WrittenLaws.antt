@@ -10,7 +10,7 @@ use Rattle.avro_schema.specs.Meaning.{IsSchemaText}
 use Rattle.avro_schema.specs.Printing.{schema_text}
 use Rattle.avro_schema.specs.Printable.{IsPrintable}
 use Rattle.avro_schema.specs.Reading.{schema_of}
-use Rattle.avro_schema.proofs.MeansText.{schema_found}
+use Rattle.avro_schema.proofs.TextMeaning.{schema_found}
 use Rattle.datum_tree.specs.Spelling.{IsEncoding}
 use Rattle.datum_writing.specs.Canonical.{canonical}
 use Rattle.datum_tree.specs.Fits.{fits}

@@ -1,0 +1,3 @@
+mod MapLaws
+mod ParseSteps
+mod FieldSteps

@@ -1,0 +1,14 @@
+pub mod Parsing
+pub mod Fault
+pub mod Form
+pub mod Members
+pub mod Rows
+pub mod Plain
+pub mod Coded
+pub mod ParseLaws
+pub mod NumberLaws
+pub mod MemberLaws
+pub mod FieldLaws
+pub mod LackLaws
+pub mod RowLaws
+pub mod PlainLaws

@@ -1,0 +1,25 @@
+//! The members of a JSON object: looked up, taken out, put in, and checked by a table.
+//!
+//! | Module | What it has |
+//! |---|---|
+//! | `parsing` | the value of a JSON text |
+//! | `members` | the member of a name, borrowed or taken out; members put in |
+//! | `form` | what a value has to be, and numbers |
+//! | `fault` | why a member is refused |
+//! | `rows` | a table of members, the first fault in an object or in a list of objects |
+//! | `tree` | an object that owns its members |
+#![tactic(auto)]
+
+mod fault;
+mod form;
+mod members;
+mod parsing;
+mod rows;
+mod tree;
+
+pub use fault::Fault;
+pub use form::{Form, has_form, int_of, is_whole, long_of, natural_of};
+pub use members::{Members, member, put, put_some, take, take_items};
+pub use parsing::parse;
+pub use rows::{Keep, Need, Row, Version, check, check_all, each_right, leave_out_fields};
+pub use tree::Tree;
