@@ -18,7 +18,7 @@ use Rattle.datum_tree.specs.Spelling.{IsEncoding}
 use Rattle.avro_schema.specs.Printable.{IsPrintable}
 use Rattle.avro_schema.specs.Printing.{schema_text}
 use Rattle.avro_schema.specs.Reading.{schema_of}
-use Rattle.avro_schema.proofs.TextMeaning.{schema_found}
+use Rattle.avro_schema.specs.Meaning.{IsSchemaText}
 use Rattle.avro_container.specs.declared.container.Block.{Block}
 use Rattle.avro_container.specs.declared.container.Container.{Container}
 use Rattle.avro_container.specs.Header.{schema_key, codec_key}
@@ -119,10 +119,12 @@ pub printed_back : (columns : List Column) (lineage : Bool) (schema : Schema) �
 printed_back columns lineage schema are schema_is printed = (rw schema_is at printed) (printable columns lineage are)
 
 -- what is written of the container stores the rows
-pub file_right : (result : Result (List ℕ) AllocError) (columns : List Column) (sync : List ℕ) (lineage : Bool) (rows : List StoredRow) (container : Container) → IsColumns columns → All (λ (row : StoredRow). fits_row columns row.cells ≡ true) rows
+pub file_right : ((text : List ℕ) (schema : Schema) → schema_of text ≡ Ok schema → IsSchemaText text schema)
+    → (result : Result (List ℕ) AllocError) (columns : List Column) (sync : List ℕ) (lineage : Bool) (rows : List StoredRow) (container : Container) → IsColumns columns → All (λ (row : StoredRow). fits_row columns row.cells ≡ true) rows
     → container ≡ file_container columns sync lineage rows → IsPrinted columns lineage → All (IsEncodedRow columns lineage) rows → IfOk result (λ bytes. IsWritable container → IsContainer bytes container)
     → IfOk result (λ bytes. StoresRows bytes columns (map (kept lineage) rows))
-file_right (Ok bytes) columns sync lineage rows container are fit container_is printed encoded framed =
+file_right found (Ok bytes) columns sync lineage rows container are fit container_is printed encoded framed =
     let here : IsContainer bytes (file_container columns sync lineage rows) = (rw container_is at framed) (writable columns sync lineage rows) in
-    file_stores bytes columns sync lineage rows here (schema_found (schema_text (file_schema columns lineage)) (file_schema columns lineage) printed) are fit encoded
-file_right (Err refused) columns sync lineage rows container are fit container_is printed encoded framed = tt
+    let schema = file_schema columns lineage in
+    file_stores bytes columns sync lineage rows here (found (schema_text schema) schema printed) are fit encoded
+file_right found (Err refused) columns sync lineage rows container are fit container_is printed encoded framed = tt

@@ -10,7 +10,6 @@ use Rattle.avro_schema.specs.Meaning.{IsSchemaText}
 use Rattle.avro_schema.specs.Printing.{schema_text}
 use Rattle.avro_schema.specs.Printable.{IsPrintable}
 use Rattle.avro_schema.specs.Reading.{schema_of}
-use Rattle.avro_schema.proofs.TextMeaning.{schema_found}
 use Rattle.datum_tree.specs.Spelling.{IsEncoding}
 use Rattle.datum_writing.specs.Canonical.{canonical}
 use Rattle.datum_tree.specs.Fits.{fits}
@@ -38,15 +37,3 @@ file_stores bytes columns sync lineage rows framed written are fit encoded = rec
   readable = readable columns lineage are;
   blocks = blocks_stored columns lineage rows are fit encoded;
 }
-
--- the same, of what the calls that write it answer: the schema's text is read as it where it can be printed, the container has the file where it can be written, and each value is encoded where it fits
-pub rows_stored : (bytes : List ℕ) (columns : List Column) (sync : List ℕ) (lineage : Bool) (rows : List StoredRow) → IsColumns columns → All (λ (row : StoredRow). fits_row columns row.cells ≡ true) rows
-    → All (λ (row : StoredRow). IfSome row.id (λ id. is_long id ≡ true) × IfSome row.last (λ last. is_long last ≡ true)) rows
-    → (IsPrintable (file_schema columns lineage) → schema_of (schema_text (file_schema columns lineage)) ≡ Ok (file_schema columns lineage))
-    → (IsWritable (file_container columns sync lineage rows) → IsContainer bytes (file_container columns sync lineage rows))
-    → All (λ (row : StoredRow). fits (file_schema columns lineage) (row_datum columns lineage row) ≡ true → IsEncoding (file_schema columns lineage) (row_datum columns lineage row) (canonical (file_schema columns lineage) (row_datum columns lineage row))) rows
-    → StoresRows bytes columns (map (kept lineage) rows)
-rows_stored bytes columns sync lineage rows are fit longs printed framed encoded =
-    file_stores bytes columns sync lineage rows (framed (writable columns sync lineage rows))
-    (schema_found (schema_text (file_schema columns lineage)) (file_schema columns lineage) (printed (printable columns lineage are)))
-    are fit (λ k d within. let long = longs k d within in encoded k d within (datum_fits columns lineage (get_or rows k d) (fit k d within) long.0 long.1))

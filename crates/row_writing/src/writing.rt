@@ -19,7 +19,7 @@ use stored_rows::RowRefusal;
 use crate::row_value::row_value;
 use avro_container::{Block, Blocks, Container, Meta, write};
 use datum_writing::encode;
-use avro_schema::print_schema;
+use avro_schema::{print_schema, reading_agrees};
 use schema_tree::Schema;
 use avro_wire::{Bytes, Text};
 use limits::{FILE_ROWS, OBJECT, Which};
@@ -89,6 +89,7 @@ fn file(
     ensures stores { IfOk result (λ bytes.
         StoresRows bytes columns.now (map (kept lineage) rows.now)) }
 {
+    reading_agrees();
     let container = container_of(alloc, columns, sync, lineage, rows)?;
     write(alloc, &container)
 }

@@ -1,5 +1,5 @@
 use Rattle.std.proofs.Common.{[]}
-use Rattle.avro_container.proofs.PutLemmas.{next_put}
+use Rattle.words.specs.Puts.{next_put}
 use Rattle.row_writing.specs.Written.{row_text, IsEncodedRow}
 use Rattle.row_writing.proofs.writing.block.Goals as goal
 

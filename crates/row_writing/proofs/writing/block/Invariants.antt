@@ -1,5 +1,5 @@
 use Rattle.std.proofs.Common.{[]}
-use Rattle.avro_container.proofs.PutLemmas.{ArePut}
+use Rattle.words.specs.Puts.{ArePut}
 use Rattle.row_writing.specs.Written.{row_text, IsEncodedRow}
 use Rattle.row_writing.proofs.writing.block.Given as goal
 
