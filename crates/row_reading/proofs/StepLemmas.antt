@@ -84,7 +84,9 @@ pub planned_reads : (columns : List Column) (fields : List Field) (steps : List 
 planned_reads columns fields steps place field step plan within field_is step_is = (planned columns fields steps place step plan within step_is).reads field (slice_get-get_or fields place field within ∙ ap Some (sym field_is))
 
 -- a field is read, and others stand behind it
-pub filled_on : (columns : List Column) (fields : List Field) (steps : List Step) (input : List ℕ) (total : Answer) (place : ℕ) (field : Field) (step : Step) (row new : StoredRow) (at after : Cursor) → IsPlan columns fields steps → place < length fields → field ≡ get_or fields place field → step ≡ get_or steps place step
+pub filled_on : (columns : List Column) (fields : List Field) (steps : List Step) (input : List ℕ) (total : Answer)
+    (place : ℕ) (field : Field) (step : Step) (row new : StoredRow) (at after : Cursor) → IsPlan columns fields steps
+    → place < length fields → field ≡ get_or fields place field → step ≡ get_or steps place step
     → put_by step row (cell_read field.schema input at) ≡ Ok (new, after) → Filled columns fields input total place row at → Filled columns fields input total (place + 1) new after
 filled_on columns fields steps input total place field step row new at after plan within field_is step_is put filled =
     let made = put_made step row new (datum_at field.schema input at) after put in
