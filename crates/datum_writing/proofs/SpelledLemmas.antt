@@ -158,7 +158,9 @@ enum_spelled name symbols datum = record {
       let found = there (is_place (length symbols)) (number_in (out-Datum datum)) (sym (enum_fits name symbols datum) ∙ fits) in
       let symbol = symbol_in (length symbols) found.value found.passes in
       let text : canonical (schemas.Enum name symbols) datum ≡ number_text (pos symbol.place) = enum_written name symbols datum ∙ (ap (text_if number_text) found.is ∙ ap number_text symbol.is) in
-      to_spells (layers.Enum name symbols) (schemas.Enum name symbols) (schemas.rolls-Enum name symbols) datum _ (record { place = symbol.place; within = symbol.within; value = is_number datum found.value found.is ∙ ap datums.Num symbol.is; spelled = rw text (place_spelled symbol.place symbol.low) });
+      to_spells (layers.Enum name symbols) (schemas.Enum name symbols) (schemas.rolls-Enum name symbols) datum _ (record
+          { place = symbol.place; within = symbol.within; value = is_number datum found.value found.is ∙ ap datums.Num symbol.is; spelled = rw text
+          (place_spelled symbol.place symbol.low) });
 }
 
 -- ---- schemas that hold others

@@ -5,10 +5,10 @@ use Rattle.words.specs.Reading.{◌>>=◌, map_refusal}
 use Rattle.words.specs.Laws.{refused_so}
 use Rattle.row_types.specs.declared.column.Column.{Column}
 use Rattle.row_types.specs.declared.row.Row.{Row}
-use Rattle.row_file.specs.declared.refusal.RowRefusal.{RowRefusal}
-use Rattle.row_file.specs.Refusal.{is_memory as wants_memory}
-use Rattle.row_file.specs.Columns.{file_columns_of}
-use Rattle.row_file.specs.File.{rows_of}
+use Rattle.stored_rows.specs.declared.refusal.RowRefusal.{RowRefusal}
+use Rattle.stored_rows.specs.Refusal.{is_memory as wants_memory}
+use Rattle.row_reading.specs.Columns.{file_columns_of}
+use Rattle.row_reading.specs.File.{rows_of}
 use Rattle.lineage_cli.specs.declared.command.Command.TheVariants.{Rows}
 use Rattle.lineage_cli.specs.declared.ending.Ending.{Ending}
 use Rattle.lineage_cli.specs.declared.ending.Ending.TheVariants.{Table}

@@ -4,10 +4,10 @@ use Rattle.std.specs.Prelude.{IfOk}
 use Rattle.words.specs.Reading.{◌>>=◌}
 use Rattle.row_types.specs.declared.column.Column.{Column}
 use Rattle.row_types.specs.declared.row.Row.{Row}
-use Rattle.row_file.specs.declared.refusal.RowRefusal.{RowRefusal}
-use Rattle.row_file.specs.Columns.{file_columns_of}
-use Rattle.row_file.specs.File.{rows_of}
-use Rattle.row_file.proofs.StoredLaws.{rows_found}
+use Rattle.stored_rows.specs.declared.refusal.RowRefusal.{RowRefusal}
+use Rattle.row_reading.specs.Columns.{file_columns_of}
+use Rattle.row_reading.specs.File.{rows_of}
+use Rattle.row_reading.proofs.StoredLaws.{rows_found}
 use Rattle.lineage_cli.specs.Rows.{file_rows, AreStored}
 
 -- by the columns

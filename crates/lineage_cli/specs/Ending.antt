@@ -12,8 +12,8 @@ use Rattle.avro_schema.specs.declared.refusal.SchemaRefusal.{SchemaRefusal}
 use Rattle.avro_schema.specs.declared.refusal.SchemaRefusal.TheVariants as schemas
 use Rattle.datum_reading.specs.declared.refusal.DatumRefusal.{DatumRefusal}
 use Rattle.datum_reading.specs.declared.refusal.DatumRefusal.TheVariants as datums
-use Rattle.row_file.specs.declared.refusal.RowRefusal.{RowRefusal}
-use Rattle.row_file.specs.declared.refusal.RowRefusal.TheVariants as refusals
+use Rattle.stored_rows.specs.declared.refusal.RowRefusal.{RowRefusal}
+use Rattle.stored_rows.specs.declared.refusal.RowRefusal.TheVariants as refusals
 use Rattle.lineage_cli.specs.declared.ending.Ending.{Ending}
 use Rattle.lineage_cli.specs.declared.ending.Ending.TheVariants.{Usage, InputFault, InputLimit, Input, Table, Illegal,
   OutFault, Memory}

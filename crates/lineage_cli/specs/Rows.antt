@@ -5,10 +5,10 @@ use Rattle.std.specs.Option.{option_map}
 use Rattle.words.specs.Reading.{◌>>=◌}
 use Rattle.row_types.specs.declared.column.Column.{Column}
 use Rattle.row_types.specs.declared.row.Row.{Row}
-use Rattle.row_file.specs.declared.refusal.RowRefusal.{RowRefusal}
-use Rattle.row_file.specs.Columns.{file_columns_of}
-use Rattle.row_file.specs.File.{rows_of}
-use Rattle.row_file.specs.Stored.{ReadsRows}
+use Rattle.stored_rows.specs.declared.refusal.RowRefusal.{RowRefusal}
+use Rattle.row_reading.specs.Columns.{file_columns_of}
+use Rattle.row_reading.specs.File.{rows_of}
+use Rattle.stored_rows.specs.Stored.{ReadsRows}
 
 -- the rows of a file by its own columns, with its first row id, where it has one, and its data sequence number
 unfoldable pub file_rows : Option ℕ → ℕ → List ℕ → Result (List Row) RowRefusal

@@ -23,7 +23,7 @@ use limits::Which;
 use lineage_model::Rule;
 use lt_port::{PortError, Sink};
 use pieces::put_literal;
-use row_file::RowRefusal;
+use stored_rows::RowRefusal;
 use std::alloc::Global;
 
 /// Why a run doesn't answer.

@@ -127,4 +127,6 @@ put_value-returns-in-Some-pairs_of-clause-spelled t c =
 
 pub put_value-returns-in-Some-branch_of-clause-spelled : goal.put_value-returns-in-Some-branch_of-clause-spelled
 put_value-returns-in-Some-branch_of-clause-spelled t c =
-    on_ok c.put_branch.result _ _ (union_at c.args.schema.now c.in-Union.branches c.as_slice-in-Some-branch_of.result.now c.args.datum.now c.in-Some-branch_of.place c.in-Some-branch_of.inside.now c.in-Union.is c.as_slice-in-Some-branch_of.ensures c.in-Some-branch_of.ensures) c.put_branch.ensures.spelled
+    on_ok c.put_branch.result _ _ (union_at c.args.schema.now c.in-Union.branches c.as_slice-in-Some-branch_of.result.now c.args.datum.now
+        c.in-Some-branch_of.place c.in-Some-branch_of.inside.now c.in-Union.is c.as_slice-in-Some-branch_of.ensures c.in-Some-branch_of.ensures)
+        c.put_branch.ensures.spelled

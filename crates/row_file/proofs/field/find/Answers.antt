@@ -1,6 +1,0 @@
-use Rattle.std.proofs.Common.{arith}
-use Rattle.row_file.proofs.FieldLemmas.{find_steps}
-use Rattle.row_file.proofs.field.find.Goals as goal
-
-pub loop-place-preserved : goal.loop-place-preserved
-loop-place-preserved c = grind (arith, find_steps)

@@ -1,6 +1,0 @@
-use Rattle.std.proofs.Common.{◌≡◌, map, take}
-use Rattle.row_file.specs.Writing.{column_field}
-use Rattle.row_file.proofs.file_schema.column_fields.Given as goal
-
-abbrev pub invariant-loop-column : goal.invariant-loop-column
-invariant-loop-column l = l.fields.items ≡ map (column_field l.plain) (take l.column-index l.columns)

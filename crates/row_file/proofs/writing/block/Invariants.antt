@@ -1,7 +1,0 @@
-use Rattle.std.proofs.Common.{[]}
-use Rattle.words.specs.Puts.{ArePut}
-use Rattle.row_file.specs.Written.{row_text, IsEncodedRow}
-use Rattle.row_file.proofs.writing.block.Given as goal
-
-abbrev pub invariant-loop-row : goal.invariant-loop-row
-invariant-loop-row l = ArePut (row_text l.columns l.lineage) (IsEncodedRow l.columns l.lineage) l.rows l.row-index [] l.bytes.items

@@ -1,0 +1,114 @@
+-- The rows of a data file, or the first refusal in the order of the checks.
+-- Avro 1.11, "Object Container Files"; Iceberg spec, "Row Lineage".
+use Rattle.std.specs.Prelude.{ℕ, ◌+◌, ◌-◌, ◌^◌, ◌==◌, ℤ, pos, negsuc, ◌+ℤ◌, int_lt, List, [], ◌∷◌, ◌++◌, length,
+  Option, Some, None, Result, Ok, Err, nat_lt, if◌then◌else◌}
+use Rattle.std.specs.Ordering.{int_eq}
+use Rattle.words.specs.Reading.{◌>>=◌, map_refusal, map_value, repeated}
+use Rattle.row_types.specs.declared.column.Column.{Column}
+use Rattle.row_types.specs.declared.row.Row.{Row}
+use Rattle.row_types.specs.declared.row.StoredRow.{StoredRow}
+use Rattle.limits.specs.declared.which.Which.TheVariants.{FileRows}
+use Rattle.schema_tree.specs.declared.schema.Schema.{Schema}
+use Rattle.avro_schema.specs.Reading.{schema_of}
+use Rattle.datum_reading.specs.Reading.{datum_at}
+use Rattle.avro_container.specs.declared.container.Block.{Block}
+use Rattle.avro_container.specs.declared.container.Container.{Container}
+use Rattle.avro_container.specs.Header.{schema_key, bound_to}
+use Rattle.avro_container.specs.Container.{container_at}
+use Rattle.stored_rows.specs.declared.refusal.RowRefusal.{RowRefusal}
+use Rattle.stored_rows.specs.declared.refusal.RowRefusal.TheVariants.{Rest, RecordCount, IdsSpent, Limit}
+use Rattle.stored_rows.specs.Refusal.{container_refusal, schema_refusal, datum_refusal}
+use Rattle.stored_rows.specs.Field.{fields_of, check_fields}
+use Rattle.stored_rows.specs.Row.{values_of, stored_row, checked_row}
+use Rattle.stored_rows.specs.Rows.{most_rows, rows_from}
+
+-- ---- the rows of a block
+
+-- a row at a place of a block's bytes, and the place after it
+unfoldable pub row_at : Schema → List Column → List ℕ → ℕ → Result (StoredRow × ℕ) RowRefusal
+row_at schema columns input place = do
+  read ← map_refusal datum_refusal (datum_at schema input (record { place = place; items = 0 }))
+  row ← checked_row columns (stored_row columns (fields_of schema) (values_of read.0))
+  Ok (row, read.1.place)
+
+-- one row more, behind those before it
+abbrev pub next_row : Schema → List Column → List ℕ → List StoredRow × ℕ → Result (List StoredRow × ℕ) RowRefusal
+next_row schema columns input (rows, place) =
+    map_value (λ read. (rows ++ read.0 ∷ [], read.1)) (row_at schema columns input place)
+
+-- a block has as many rows as it says, and no byte behind them
+abbrev pub ended : ℕ → List ℕ → List StoredRow × ℕ → Result (List StoredRow) RowRefusal
+ended number input (rows, place) = if place == length input then Ok rows else Err (Rest number)
+
+-- how many rows a count says that there are; none has fewer than 0
+abbrev pub rows_told : ℤ → ℕ
+rows_told (pos count) = count
+rows_told (negsuc count) = 0
+
+abbrev pub count_of : Block → ℕ
+count_of block = rows_told block.count
+
+-- the rows of a block, whose number counts from 1, behind those of the blocks before it
+unfoldable pub block_rows : Schema → List Column → ℕ → Block → Result (List StoredRow) RowRefusal
+block_rows schema columns number block =
+    repeated (next_row schema columns block.bytes) (count_of block) ([], 0) >>= ended number block.bytes
+
+-- the rows of blocks, the first of which has the number
+unfoldable pub blocks_rows : Schema → List Column → ℕ → List Block → Result (List StoredRow) RowRefusal
+blocks_rows schema columns number [] = Ok []
+blocks_rows schema columns number (block ∷ blocks) = do
+  rows ← block_rows schema columns number block
+  others ← blocks_rows schema columns (number + 1) blocks
+  Ok (rows ++ others)
+
+-- ---- the checks of a file
+
+-- the counts of the blocks are together no more than that; else the sum up to the first block that passes it
+unfoldable pub check_counts : ℕ → List Block → Result (Unit {0}) RowRefusal
+check_counts before [] = Ok tt
+check_counts before (block ∷ blocks) =
+    if nat_lt most_rows (before + count_of block) then Err (Limit FileRows (before + count_of block)) else
+        check_counts (before + count_of block) blocks
+
+-- the file has as many rows as the caller says, where that is said
+abbrev pub check_told : Option ℤ → ℕ → Result (Unit {0}) RowRefusal
+check_told None found = Ok tt
+check_told (Some told) found = if int_eq told (pos found) then Ok tt else Err (RecordCount told (pos found))
+
+-- where the file has a first row id, that id and the number of rows are together at most the largest long
+abbrev pub check_ids : Option ℤ → ℕ → Result (Unit {0}) RowRefusal
+check_ids None rows = Ok tt
+check_ids (Some first) rows =
+    if int_lt (pos (2 ^ 63 - 1)) (first +ℤ pos rows) then Err (IdsSpent first (pos rows)) else Ok tt
+
+-- the schema that a header binds
+abbrev pub schema_in : Option (List ℕ) → Result Schema RowRefusal
+schema_in None = map_refusal schema_refusal (schema_of [])
+schema_in (Some text) = map_refusal schema_refusal (schema_of text)
+
+-- a file's container, and its schema
+abbrev pub Opened : Type 0
+Opened = Container × Schema
+
+unfoldable pub opened : List ℕ → Result Opened RowRefusal
+opened bytes = do
+  container ← map_refusal container_refusal (container_at bytes)
+  schema ← schema_in (bound_to container.meta schema_key)
+  Ok (container, schema)
+
+-- the stored rows of a file that was opened, for a table of these columns
+unfoldable pub rows_in : List Column → Opened → Result (List StoredRow) RowRefusal
+rows_in columns (container, schema) = do
+  _ ← check_fields (fields_of schema) columns
+  _ ← check_counts 0 container.blocks
+  blocks_rows schema columns 1 container.blocks
+
+-- the rows of a file for a table of these columns, with the file's first row id, its data sequence number and the
+-- number of rows that the caller says it has
+unfoldable pub rows_of : List ℕ → List Column → Option ℤ → ℤ → Option ℤ → Result (List Row) RowRefusal
+rows_of bytes columns first sequence told = do
+  file ← opened bytes
+  stored ← rows_in columns file
+  _ ← check_told told (length stored)
+  _ ← check_ids first (length stored)
+  Ok (rows_from first sequence 0 stored)

@@ -1,0 +1,10 @@
+mod ItemLemmas
+mod ValueLemmas
+mod WrittenSchema
+mod WrittenRows
+mod WrittenFits
+mod WrittenBlocks
+mod WrittenNames
+mod WrittenPrinted
+mod WrittenLaws
+mod WritingLemmas

@@ -1,0 +1,7 @@
+pub mod Refusal
+pub mod Kind
+pub mod Field
+pub mod Row
+pub mod Rows
+pub mod Stored
+pub mod FieldLaws

@@ -1,0 +1,95 @@
+-- A row as a data file stores it, and as it is read at its position.
+-- Iceberg spec, "Row Lineage"; "Column Projection".
+use Rattle.std.specs.Prelude.{ℕ, ℤ, pos, ◌+ℤ◌, Bool, true, false, ◌&&◌, List, [], ◌∷◌, map, Option, Some, None,
+  slice_get, Result, Ok, Err, if◌then◌else◌}
+use Rattle.words.specs.Reading.{◌>>=◌}
+use Rattle.row_types.specs.declared.cell.Cell.{Cell}
+use Rattle.row_types.specs.declared.cell.Cell.TheVariants as cells
+use Rattle.row_types.specs.CellRef.{is_null, number_of}
+use Rattle.row_types.specs.declared.column.Column.{Column}
+use Rattle.row_types.specs.declared.row.Row.{Row}
+use Rattle.row_types.specs.declared.row.StoredRow.{StoredRow}
+use Rattle.schema_tree.specs.declared.schema.Field.{Field}
+use Rattle.datum_tree.specs.declared.datum.Datum.{Datum, out-Datum}
+use Rattle.datum_tree.specs.declared.datum.Datum.TheOpen as kinds
+use Rattle.datum_tree.specs.Value.{Level}
+use Rattle.stored_rows.specs.declared.refusal.RowRefusal.{RowRefusal}
+use Rattle.stored_rows.specs.declared.refusal.RowRefusal.TheVariants.{Kind}
+use Rattle.stored_rows.specs.Field.{Found, find, row_id_field, last_updated_field}
+
+-- ---- the inheritance of lineage
+
+-- the row's own id; else the file's first one plus the row's position, counted from 0 over all rows of the file;
+-- none if the file has none
+abbrev pub row_id_of : Option ℤ → Option ℤ → ℕ → Option ℤ
+row_id_of first (Some stored) position = Some stored
+row_id_of (Some first) None position = Some (first +ℤ pos position)
+row_id_of None None position = None
+
+-- the row's own last change, or the data sequence number of the file's entry
+abbrev pub row_last_of : Option ℤ → ℤ → ℤ
+row_last_of (Some stored) sequence = stored
+row_last_of None sequence = sequence
+
+-- the row that is read at a position
+abbrev pub read_row : Option ℤ → ℤ → ℕ → StoredRow → Row
+read_row first sequence position stored = record {
+  id = row_id_of first stored.id position;
+  last = row_last_of stored.last sequence;
+  cells = stored.cells;
+}
+
+-- ---- from values to rows
+
+-- the cell that a value of an allowed type is
+abbrev pub plain_cell : Level → Cell
+plain_cell (kinds.Flag flag) = cells.Flag flag
+plain_cell (kinds.Num number) = cells.Num number
+plain_cell (kinds.Str text) = cells.Text text
+plain_cell (kinds.Raw bytes) = cells.Bytes bytes
+plain_cell _ = cells.Null
+
+-- the same, where null may stand beside the type
+abbrev pub cell_of_level : Level → Cell
+cell_of_level (kinds.Branch place inside) = plain_cell (out-Datum inside)
+cell_of_level level = plain_cell level
+
+abbrev pub cell_of : Option Datum → Cell
+cell_of None = cells.Null
+cell_of (Some value) = cell_of_level (out-Datum value)
+
+-- the values of a record's fields; of another value there are none
+abbrev pub values_of_level : Level → List Datum
+values_of_level (kinds.Rec values) = values
+values_of_level _ = []
+
+abbrev pub values_of : Datum → List Datum
+values_of datum = values_of_level (out-Datum datum)
+
+-- the cell of a field that was found; null where there is none
+abbrev pub cell_at : List Datum → Option Found → Cell
+cell_at values None = cells.Null
+cell_at values (Some found) = cell_of (slice_get values found.0)
+
+-- the cell of the field with the id
+abbrev pub cell_with : List Field → List Datum → ℤ → Cell
+cell_with fields values id = cell_at values (find id fields)
+
+-- the row that the values of a file's fields store, with a cell for each column
+abbrev pub stored_row : List Column → List Field → List Datum → StoredRow
+stored_row columns fields values = record {
+  id = number_of (cell_with fields values row_id_field);
+  last = number_of (cell_with fields values last_updated_field);
+  cells = map (λ column. cell_with fields values column.id) columns;
+}
+
+-- no required column has a null; the first one that has is told
+unfoldable pub check_nulls : List Column → List Cell → Result (Unit {0}) RowRefusal
+check_nulls [] cells = Ok tt
+check_nulls (column ∷ columns) [] = Ok tt
+check_nulls (column ∷ columns) (cell ∷ cells) =
+    if column.required && is_null cell then Err (Kind column.id) else check_nulls columns cells
+
+-- a row, where no required column has a null
+abbrev pub checked_row : List Column → StoredRow → Result StoredRow RowRefusal
+checked_row columns row = check_nulls columns row.cells >>= λ _. Ok row

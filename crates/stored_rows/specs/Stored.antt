@@ -1,0 +1,110 @@
+-- Which rows a data file stores, whatever reads it: the promise of a reader of rows.
+-- Avro 1.11, "Object Container Files"; Iceberg spec, "Column Projection", "Row Lineage".
+use Rattle.std.specs.Prelude.{◌≡◌, ℕ, ◌≤◌, ◌^◌, ◌-◌, ℤ, pos, ◌+ℤ◌, ◌≤ℤ◌, true, false, List, [], ◌∷◌, ◌++◌, length,
+  All, Option, Some, None, IfSome}
+use Rattle.row_types.specs.declared.cell.Cell.{Cell}
+use Rattle.row_types.specs.declared.column.Column.{Column}
+use Rattle.row_types.specs.declared.column.Kind.TheVariants as kinds
+use Rattle.row_types.specs.declared.row.Row.{Row}
+use Rattle.row_types.specs.declared.row.StoredRow.{StoredRow}
+use Rattle.avro_wire.specs.Blocks.{SpellsItems}
+use Rattle.schema_tree.specs.declared.schema.Schema.{Schema}
+use Rattle.schema_tree.specs.declared.schema.Field.{Field}
+use Rattle.avro_schema.specs.Meaning.{IsSchemaText}
+use Rattle.datum_tree.specs.declared.datum.Datum.{Datum}
+use Rattle.datum_tree.specs.Spelling.{IsEncoding}
+use Rattle.avro_container.specs.declared.container.Block.{Block}
+use Rattle.avro_container.specs.declared.container.Container.{Container}
+use Rattle.avro_container.specs.Header.{schema_key, bound_to}
+use Rattle.avro_container.specs.Container.{most_bytes}
+use Rattle.avro_container.specs.Format.{IsContainer}
+use Rattle.stored_rows.specs.Kind.{is_allowed}
+use Rattle.stored_rows.specs.Field.{Found, find, fields_of, row_id_field, last_updated_field}
+use Rattle.row_types.specs.CellRef.{is_null}
+use Rattle.stored_rows.specs.Row.{values_of, stored_row}
+use Rattle.stored_rows.specs.Rows.{most_rows, rows_from}
+
+-- ---- the columns
+
+-- a field was found, or the column needs none
+abbrev pub IsThere : Column → Option Found → Type 0
+IsThere column None = column.required ≡ false
+IsThere column (Some found) = is_allowed column.kind found.1 ≡ true
+
+-- a field was found, of an allowed type
+abbrev pub IsHeld : Column → Option Found → Type 0
+IsHeld column None = ⊥
+IsHeld column (Some found) = is_allowed column.kind found.1 ≡ true
+
+-- a lineage column's field, where there is one, holds longs
+abbrev pub HoldsLongs : Option Found → Type 0
+HoldsLongs found = IfSome found (λ field. is_allowed kinds.Long field.1 ≡ true)
+
+-- the fields of a file can be read for a table: each required column is there, and each column that is there has an
+-- allowed type
+pub record AreReadable (columns : List Column) (fields : List Field) : Type 0 where
+  pub each : All (λ column. IsThere column (find column.id fields)) columns
+  pub row_id : HoldsLongs (find row_id_field fields)
+  pub last_updated : HoldsLongs (find last_updated_field fields)
+
+-- ---- the rows
+
+-- no null stands in a required column
+abbrev pub HasNoNull : List Column → List Cell → Type 0
+HasNoNull [] cells = Unit {0}
+HasNoNull (column ∷ columns) [] = Unit {0}
+HasNoNull (column ∷ columns) (cell ∷ cells) = (column.required ≡ true → is_null cell ≡ false) × HasNoNull columns cells
+
+-- the bytes are one value of the file's schema, and that value stores the row
+pub record StoresRow (columns : List Column) (schema : Schema) (row : StoredRow) (bytes : List ℕ) : Type 0 where
+  pub datum : Datum
+  pub encoded : IsEncoding schema datum bytes
+  pub stored : row ≡ stored_row columns (fields_of schema) (values_of datum)
+  pub nulls : HasNoNull columns row.cells
+
+-- a block has as many rows as it says, one behind the other, and no byte more
+abbrev pub StoresBlock : List Column → Schema → List StoredRow → Block → Type 0
+StoresBlock columns schema rows block =
+    (block.count ≡ pos (length rows)) × SpellsItems (StoresRow columns schema) rows block.bytes
+
+-- the rows of one block, and those of the others behind it
+pub record StoresMore (First Others : List StoredRow → Type 0) (rows : List StoredRow) : Type 0 where
+  pub front : List StoredRow
+  pub rest : List StoredRow
+  pub parts : rows ≡ front ++ rest
+  pub first : First front
+  pub others : Others rest
+
+-- the rows of blocks, in their order
+abbrev pub StoresBlocks : List Column → Schema → List Block → List StoredRow → Type 0
+StoresBlocks columns schema [] rows = rows ≡ []
+StoresBlocks columns schema (block ∷ blocks) rows =
+    StoresMore (λ front. StoresBlock columns schema front block) (StoresBlocks columns schema blocks) rows
+
+-- the file stores these rows, for a table of these columns
+pub record StoresRows (bytes : List ℕ) (columns : List Column) (rows : List StoredRow) : Type 0 where
+  pub container : Container
+  pub schema : Schema
+  pub text : List ℕ
+  pub framed : IsContainer bytes container
+  pub bound : bound_to container.meta schema_key ≡ Some text
+  pub written : IsSchemaText text schema
+  pub readable : AreReadable columns (fields_of schema)
+  pub blocks : StoresBlocks columns schema container.blocks rows
+
+-- ---- what is read
+
+-- the file stores rows, and these are they, each read at its position
+pub record ReadsRows (bytes : List ℕ) (columns : List Column) (first : Option ℤ) (sequence : ℤ) (rows : List Row)
+    : Type 0 where
+  pub stored : List StoredRow
+  pub stores : StoresRows bytes columns stored
+  pub read : rows ≡ rows_from first sequence 0 stored
+
+-- so many rows of a file of so many bytes are read: they are within the limits, as many as the caller says, and the
+-- file's first row id plus their number is at most the largest long
+pub record AreRead (first told : Option ℤ) (bytes rows : ℕ) : Type 0 where
+  pub size : bytes ≤ most_bytes
+  pub few : rows ≤ most_rows
+  pub as_told : IfSome told (λ number. number ≡ pos rows)
+  pub ids : IfSome first (λ id. (id +ℤ pos rows) ≤ℤ pos (2 ^ 63 - 1))

@@ -1,0 +1,54 @@
+//! Why the rows of a data file can't be read or written.
+
+ghost use Rattle.std.specs.Prelude.{◌≡◌};
+ghost use Rattle.stored_rows.specs.declared.refusal.RowRefusal.TheVariants.{Memory};
+
+use avro_container::ContainerRefusal;
+use datum_reading::DatumRefusal;
+use avro_schema::SchemaRefusal;
+use limits::Which;
+use std::alloc::{AllocError, AllocFailed};
+
+/// Why the rows of a data file can't be read or written: the first cause in the order of the
+/// checks. docs/FORMATS.md, "Data files".
+#[derive(Drop)]
+pub enum RowRefusal {
+    /// The bytes are no container.
+    Container(ContainerRefusal),
+    /// The container's schema is none.
+    Schema(SchemaRefusal),
+    /// The file has no field of this required column. `id`: the column's.
+    MissingColumn { id: i32 },
+    /// A field's type isn't one that the column is read from, or a required column has a null.
+    /// `id`: the column's; 0 where there is none.
+    Kind { id: i32 },
+    /// The bytes of a row spell none. Its places count from the start of the block's bytes.
+    Datum(DatumRefusal),
+    /// Bytes are left behind the last row of the block. Blocks count from 1.
+    Rest { block: u64 },
+    /// The caller says that the file has another number of rows.
+    RecordCount { told: i64, found: i64 },
+    /// The first row id plus the number of rows is above 9223372036854775807.
+    IdsSpent { first: i64, rows: i64 },
+    /// A quantity is above its limit: the bytes of the file, or its rows. `found`: how many there
+    /// are; of rows that are read, how many up to the first block that passes the limit.
+    Limit { which: Which, found: u64 },
+    /// There was no memory.
+    Memory,
+}
+
+impl From<AllocError> for RowRefusal {
+    ghost from_gives = { λ _ e. e ≡ Memory };
+
+    fn from(_e: AllocError) -> RowRefusal {
+        RowRefusal::Memory
+    }
+}
+
+impl<T: Drop> From<AllocFailed<T>> for RowRefusal {
+    ghost from_gives = { λ _ e. e ≡ Memory };
+
+    fn from(_e: AllocFailed<T>) -> RowRefusal {
+        RowRefusal::Memory
+    }
+}
