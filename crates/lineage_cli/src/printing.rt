@@ -17,7 +17,8 @@ ghost use Rattle.lineage_cli.specs.Text.{spaced, row_line, lines};
 use crate::output::{flush, put};
 use itoa::Buffer;
 use lt_port::{PortError, Sink};
-use row_reading::{CellRef, CheckedRows};
+use row_reading::CheckedRows;
+use row_types::CellRef;
 use std::alloc::Global;
 
 /// The digits of bytes, by their values.

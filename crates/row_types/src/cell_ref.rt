@@ -1,12 +1,7 @@
 //! A cell that borrows its text or its bytes.
 
 ghost use Rattle.std.specs.Prelude.{◌≡◌, IfOk};
-<<<<<<<< HEAD:crates/row_types/src/cell_ref.rt
 ghost use Rattle.row_types.specs.CellRef.{lent_cell, is_null as null_cell, number_of};
-========
-ghost use Rattle.row_reading.specs.Cell.{lent_cell};
-ghost use Rattle.stored_rows.specs.Row.{is_null as null_cell, number_of};
->>>>>>>> 80004d82ddd1ccd25cf77c7f75b64fd57328df2c:crates/row_reading/src/cell.rt
 
 use crate::cell::Cell;
 use avro_wire::{Bytes, Text};
