@@ -13,6 +13,7 @@ use crate::rows::answer_rows;
 use avro_wire::Text;
 use limits::{INPUT, ROWS_INPUT};
 use lt_port::{Sink, Source};
+use row_reading::reading_agrees;
 use std::alloc::Global;
 
 /// Does what the words ask for, and answers the exit status: 0 for an answer. Any other has its
@@ -36,6 +37,7 @@ pub fn run_alone<S: Source, W: Sink, E: Sink>(
     ensures stored { (first : Option ℕ) (sequence : ℕ) (bytes : List ℕ)
         → IfOk (file_rows first sequence bytes) (AreStored first sequence bytes) }
 {
+    reading_agrees();
     match serve(alloc, words, input, out) {
         Ok(()) => 0,
         Err(ending) => {

@@ -12,19 +12,18 @@ use Rattle.row_types.specs.declared.row.StoredRow.{StoredRow}
 use Rattle.schema_tree.specs.declared.schema.Schema.{Schema}
 use Rattle.avro_schema.specs.Meaning.{IsSchemaText}
 use Rattle.avro_schema.specs.Reading.{schema_of}
-use Rattle.avro_schema.proofs.TextMeaning.{schema_found, schema_only}
 use Rattle.avro_container.specs.declared.container.Container.{Container}
 use Rattle.avro_container.specs.Header.{Pair, has_key, bound_to, schema_key}
 use Rattle.avro_container.specs.Container.{container_at, most_bytes}
 use Rattle.avro_container.specs.Format.{IsContainer}
 use Rattle.words.specs.Steps.{bind_then, map_ok, ok_is}
-use Rattle.avro_container.proofs.SpelledFile.{container_found, container_again}
 use Rattle.stored_rows.specs.Refusal.{container_refusal, schema_refusal}
 use Rattle.stored_rows.specs.Field.{fields_of, check_fields}
 use Rattle.row_reading.specs.File.{check_counts, check_told, check_ids, schema_in, Opened, opened, rows_in, rows_of}
 use Rattle.stored_rows.specs.Rows.{rows_from}
 use Rattle.stored_rows.specs.Stored.{StoresRows, ReadsRows, AreRead}
 use Rattle.stored_rows.specs.FieldLaws.{fields_readable, fields_checked}
+use Rattle.row_reading.specs.Laws.{Laws}
 use Rattle.row_reading.proofs.StoredBlocks.{blocks_took, blocks_again, counts_few}
 
 -- ---- the container and the schema
@@ -45,87 +44,88 @@ bound_there (pair ∷ pairs) key has none =
       | inr other ↦ bound_there pairs key (rw other at has) (rw other at none)
     ]
 
--- what is read of what a header binds, by what that is
-opened_as : (bytes : List ℕ) (container : Container) (schema : Schema) (bound : Option (List ℕ)) → IsContainer bytes container → bound_to container.meta schema_key ≡ bound → schema_in bound ≡ Ok schema → IsOpened bytes (container, schema)
-opened_as bytes container schema None framed is read = absurd (bound_there container.meta schema_key framed.header.schema is)
-opened_as bytes container schema (Some text) framed is read = record { text = text; framed = framed; bound = is; written = schema_found text schema (map_ok schema_refusal (schema_of text) schema read) }
+module _ (laws : Laws) where
+  -- what is read of what a header binds, by what that is
+  opened_as : (bytes : List ℕ) (container : Container) (schema : Schema) (bound : Option (List ℕ)) → IsContainer bytes container → bound_to container.meta schema_key ≡ bound → schema_in bound ≡ Ok schema → IsOpened bytes (container, schema)
+  opened_as bytes container schema None framed is read = absurd (bound_there container.meta schema_key framed.header.schema is)
+  opened_as bytes container schema (Some text) framed is read = record { text = text; framed = framed; bound = is; written = laws.schema_found text schema (map_ok schema_refusal (schema_of text) schema read) }
 
--- what is opened is so
-opened_is : (bytes : List ℕ) (file : Opened) → opened bytes ≡ Ok file → IsOpened bytes file
-unfolding opened
-opened_is bytes file read =
-    bind_then (map_refusal container_refusal (container_at bytes)) _ file read (λ container container_read others.
-    bind_then (schema_in (bound_to container.meta schema_key)) _ file others (λ schema schema_read made.
-    let framed = container_found bytes container (map_ok container_refusal (container_at bytes) container container_read) in
-    subst (IsOpened bytes) (ok_is (container, schema) file made) (opened_as bytes container schema (bound_to container.meta schema_key) framed refl schema_read)))
+  -- what is opened is so
+  opened_is : (bytes : List ℕ) (file : Opened) → opened bytes ≡ Ok file → IsOpened bytes file
+  unfolding opened
+  opened_is bytes file read =
+      bind_then (map_refusal container_refusal (container_at bytes)) _ file read (λ container container_read others.
+      bind_then (schema_in (bound_to container.meta schema_key)) _ file others (λ schema schema_read made.
+      let framed = laws.container_found bytes container (map_ok container_refusal (container_at bytes) container container_read) in
+      subst (IsOpened bytes) (ok_is (container, schema) file made) (opened_as bytes container schema (bound_to container.meta schema_key) framed refl schema_read)))
 
--- what is so is opened
-opened_again : (bytes : List ℕ) (container : Container) (schema : Schema) (text : List ℕ) → IsContainer bytes container → bound_to container.meta schema_key ≡ Some text → IsSchemaText text schema → length bytes ≤ most_bytes → opened bytes ≡ Ok (container, schema)
-unfolding opened
-opened_again bytes container schema text framed bound written size =
-    let read : schema_in (bound_to container.meta schema_key) ≡ Ok schema = ap schema_in bound ∙ ap (map_refusal schema_refusal) (schema_only text schema written) in
-    rw (container_again bytes container framed size, read) refl
+  -- what is so is opened
+  opened_again : (bytes : List ℕ) (container : Container) (schema : Schema) (text : List ℕ) → IsContainer bytes container → bound_to container.meta schema_key ≡ Some text → IsSchemaText text schema → length bytes ≤ most_bytes → opened bytes ≡ Ok (container, schema)
+  unfolding opened
+  opened_again bytes container schema text framed bound written size =
+      let read : schema_in (bound_to container.meta schema_key) ≡ Ok schema = ap schema_in bound ∙ ap (map_refusal schema_refusal) (laws.schema_only text schema written) in
+      rw (laws.container_only bytes container framed size, read) refl
 
--- ---- the rows
+  -- ---- the rows
 
--- rows that are read are stored
-stores_rows : (bytes : List ℕ) (columns : List Column) (file : Opened) (stored : List StoredRow) → IsOpened bytes file → rows_in columns file ≡ Ok stored → StoresRows bytes columns stored
-unfolding rows_in
-stores_rows bytes columns (container, schema) stored is read =
-    bind_then (check_fields (fields_of schema) columns) _ stored read (λ done readable others.
-    bind_then (check_counts 0 container.blocks) _ stored others (λ counted few rows_read.
-    record {
-      container = container;
-      schema = schema;
-      text = is.text;
-      framed = is.framed;
-      bound = is.bound;
-      written = is.written;
-      readable = fields_readable (fields_of schema) columns done readable;
-      blocks = blocks_took columns schema container.sync container.blocks 1 is.framed.blocks stored is.framed.spelled rows_read;
-    }))
+  -- rows that are read are stored
+  stores_rows : (bytes : List ℕ) (columns : List Column) (file : Opened) (stored : List StoredRow) → IsOpened bytes file → rows_in columns file ≡ Ok stored → StoresRows bytes columns stored
+  unfolding rows_in
+  stores_rows bytes columns (container, schema) stored is read =
+      bind_then (check_fields (fields_of schema) columns) _ stored read (λ done readable others.
+      bind_then (check_counts 0 container.blocks) _ stored others (λ counted few rows_read.
+      record {
+        container = container;
+        schema = schema;
+        text = is.text;
+        framed = is.framed;
+        bound = is.bound;
+        written = is.written;
+        readable = fields_readable (fields_of schema) columns done readable;
+        blocks = blocks_took laws.values columns schema container.sync container.blocks 1 is.framed.blocks stored is.framed.spelled rows_read;
+      }))
 
--- rows that are stored, and are few, are read
-rows_in_again : (bytes : List ℕ) (columns : List Column) (stored : List StoredRow) (stores : StoresRows bytes columns stored) (first told : Option ℤ) → AreRead first told (length bytes) (length stored) → rows_in columns (stores.container, stores.schema) ≡ Ok stored
-unfolding rows_in
-rows_in_again bytes columns stored stores first told read =
-    let fields = fields_checked (fields_of stores.schema) columns stores.readable in
-    let counts = counts_few columns stores.schema stores.container.blocks 0 stored stores.blocks (omega (arith, read.few)) in
-    rw (fields, counts) (blocks_again columns stores.schema stores.container.blocks 1 stored stores.blocks)
+  -- rows that are stored, and are few, are read
+  rows_in_again : (bytes : List ℕ) (columns : List Column) (stored : List StoredRow) (stores : StoresRows bytes columns stored) (first told : Option ℤ) → AreRead first told (length bytes) (length stored) → rows_in columns (stores.container, stores.schema) ≡ Ok stored
+  unfolding rows_in
+  rows_in_again bytes columns stored stores first told read =
+      let fields = fields_checked (fields_of stores.schema) columns stores.readable in
+      let counts = counts_few laws.values columns stores.schema stores.container.blocks 0 stored stores.blocks (omega (arith, read.few)) in
+      rw (fields, counts) (blocks_again laws.values columns stores.schema stores.container.blocks 1 stored stores.blocks)
 
--- ---- the checks
+  -- ---- the checks
 
--- as many rows as were told pass the check
-told_passes : (told : Option ℤ) (rows : ℕ) → IfSome told (λ number. number ≡ pos rows) → check_told told rows ≡ Ok tt
-told_passes None rows as_told = refl
-told_passes (Some number) rows as_told = rw ((Decides-int_eq number (pos rows)).1 as_told) refl
+  -- as many rows as were told pass the check
+  told_passes : (told : Option ℤ) (rows : ℕ) → IfSome told (λ number. number ≡ pos rows) → check_told told rows ≡ Ok tt
+  told_passes None rows as_told = refl
+  told_passes (Some number) rows as_told = rw ((Decides-int_eq number (pos rows)).1 as_told) refl
 
--- what isn't above isn't below
-not_above : (most sum : ℤ) → sum ≤ℤ most → int_lt most sum ≡ false
-not_above most sum within = grind (arith, ints)
+  -- what isn't above isn't below
+  not_above : (most sum : ℤ) → sum ≤ℤ most → int_lt most sum ≡ false
+  not_above most sum within = grind (arith, ints)
 
--- ids that are there for all rows pass the check
-ids_pass : (first : Option ℤ) (rows : ℕ) → IfSome first (λ id. (id +ℤ pos rows) ≤ℤ pos (2 ^ 63 - 1)) → check_ids first rows ≡ Ok tt
-ids_pass None rows ids = refl
-ids_pass (Some id) rows ids = rw (not_above (pos (2 ^ 63 - 1)) (id +ℤ pos rows) ids) refl
+  -- ids that are there for all rows pass the check
+  ids_pass : (first : Option ℤ) (rows : ℕ) → IfSome first (λ id. (id +ℤ pos rows) ≤ℤ pos (2 ^ 63 - 1)) → check_ids first rows ≡ Ok tt
+  ids_pass None rows ids = refl
+  ids_pass (Some id) rows ids = rw (not_above (pos (2 ^ 63 - 1)) (id +ℤ pos rows) ids) refl
 
--- ---- both directions
+  -- ---- both directions
 
--- what is read is what the file stores
-pub rows_found : (bytes : List ℕ) (columns : List Column) (first : Option ℤ) (sequence : ℤ) (told : Option ℤ) (rows : List Row) → rows_of bytes columns first sequence told ≡ Ok rows → ReadsRows bytes columns first sequence rows
-unfolding rows_of
-rows_found bytes columns first sequence told rows read =
-    bind_then (opened bytes) _ rows read (λ file file_read others.
-    bind_then (rows_in columns file) _ rows others (λ stored stored_read others.
-    bind_then (check_told told (length stored)) _ rows others (λ counted is_told others.
-    bind_then (check_ids first (length stored)) _ rows others (λ numbered has_ids made.
-    record { stored = stored; stores = stores_rows bytes columns file stored (opened_is bytes file file_read) stored_read; read = sym (ok_is (rows_from first sequence 0 stored) rows made) }))))
+  -- what is read is what the file stores
+  pub rows_found : (bytes : List ℕ) (columns : List Column) (first : Option ℤ) (sequence : ℤ) (told : Option ℤ) (rows : List Row) → rows_of bytes columns first sequence told ≡ Ok rows → ReadsRows bytes columns first sequence rows
+  unfolding rows_of
+  rows_found bytes columns first sequence told rows read =
+      bind_then (opened bytes) _ rows read (λ file file_read others.
+      bind_then (rows_in columns file) _ rows others (λ stored stored_read others.
+      bind_then (check_told told (length stored)) _ rows others (λ counted is_told others.
+      bind_then (check_ids first (length stored)) _ rows others (λ numbered has_ids made.
+      record { stored = stored; stores = stores_rows bytes columns file stored (opened_is bytes file file_read) stored_read; read = sym (ok_is (rows_from first sequence 0 stored) rows made) }))))
 
--- what the file stores is read
-pub rows_only : (bytes : List ℕ) (columns : List Column) (first : Option ℤ) (sequence : ℤ) (told : Option ℤ) (stored : List StoredRow) → StoresRows bytes columns stored → AreRead first told (length bytes) (length stored)
-    → rows_of bytes columns first sequence told ≡ Ok (rows_from first sequence 0 stored)
-unfolding rows_of
-rows_only bytes columns first sequence told stored stores read =
-    let file = opened_again bytes stores.container stores.schema stores.text stores.framed stores.bound stores.written read.size in
-    let rows = rows_in_again bytes columns stored stores first told read in
-    rw (file, rows, told_passes told (length stored) read.as_told, ids_pass first (length stored) read.ids) refl
+  -- what the file stores is read
+  pub rows_only : (bytes : List ℕ) (columns : List Column) (first : Option ℤ) (sequence : ℤ) (told : Option ℤ) (stored : List StoredRow) → StoresRows bytes columns stored → AreRead first told (length bytes) (length stored)
+      → rows_of bytes columns first sequence told ≡ Ok (rows_from first sequence 0 stored)
+  unfolding rows_of
+  rows_only bytes columns first sequence told stored stores read =
+      let file = opened_again bytes stores.container stores.schema stores.text stores.framed stores.bound stores.written read.size in
+      let rows = rows_in_again bytes columns stored stores first told read in
+      rw (file, rows, told_passes told (length stored) read.as_told, ids_pass first (length stored) read.ids) refl

@@ -10,8 +10,8 @@ use Rattle.datum_tree.specs.declared.datum.Datum.{Datum}
 use Rattle.datum_tree.specs.Value.{items_in}
 use Rattle.datum_reading.specs.Reading.{datum_at}
 use Rattle.words.specs.Parts.{Stand, Took}
-use Rattle.datum_reading.specs.Agreeing.{Passes}
-use Rattle.datum_reading.proofs.SpelledDatum.{agrees_datum}
+use Rattle.datum_reading.specs.Agreeing.{Passes, Agrees}
+use Rattle.datum_tree.specs.Spelling.{Spells}
 use Rattle.words.specs.Steps.{bind_then, map_ok, test_failed, ok_is}
 use Rattle.stored_rows.specs.Refusal.{datum_refusal}
 use Rattle.stored_rows.specs.Field.{fields_of}
@@ -62,39 +62,40 @@ start place = record { place = place; items = 0 }
 abbrev row_of : Schema → List Column → Datum → StoredRow
 row_of schema columns datum = stored_row columns (fields_of schema) (values_of datum)
 
--- a value that was read, and whose row was checked, is a row
-row_is : (schema : Schema) (columns : List Column) (input : List ℕ) (place : ℕ) (value : Datum × Cursor) (row : StoredRow) → datum_at schema input (start place) ≡ Ok value → checked_row columns (row_of schema columns value.0) ≡ Ok row
-    → Took input place value.1.place (StoresRow columns schema row)
-row_is schema columns input place value row read checked =
-    let took = (agrees_datum schema).sound input (start place) value (omega arith) read in
-    bind_then (check_nulls columns (row_of schema columns value.0).cells) _ row checked (λ done none made.
-    let is : Took input place value.1.place (StoresRow columns schema (row_of schema columns value.0)) = record {
-      bytes = took.took.bytes;
-      stand = took.took.stand;
-      such = record {
-        datum = value.0;
-        encoded = record { spelled = took.took.such; few = omega (arith, took.counts, took.few) };
-        stored = refl;
-        nulls = nulls_none columns (row_of schema columns value.0).cells done none;
-      };
-    } in
-    subst (λ (r : StoredRow). Took input place value.1.place (StoresRow columns schema r)) (ok_is (row_of schema columns value.0) row made) is)
+module _ (agrees : (schema : Schema) → Agrees (datum_at schema) (Spells schema) items_in) where
+  -- a value that was read, and whose row was checked, is a row
+  row_is : (schema : Schema) (columns : List Column) (input : List ℕ) (place : ℕ) (value : Datum × Cursor) (row : StoredRow) → datum_at schema input (start place) ≡ Ok value → checked_row columns (row_of schema columns value.0) ≡ Ok row
+      → Took input place value.1.place (StoresRow columns schema row)
+  row_is schema columns input place value row read checked =
+      let took = (agrees schema).sound input (start place) value (omega arith) read in
+      bind_then (check_nulls columns (row_of schema columns value.0).cells) _ row checked (λ done none made.
+      let is : Took input place value.1.place (StoresRow columns schema (row_of schema columns value.0)) = record {
+        bytes = took.took.bytes;
+        stand = took.took.stand;
+        such = record {
+          datum = value.0;
+          encoded = record { spelled = took.took.such; few = omega (arith, took.counts, took.few) };
+          stored = refl;
+          nulls = nulls_none columns (row_of schema columns value.0).cells done none;
+        };
+      } in
+      subst (λ (r : StoredRow). Took input place value.1.place (StoresRow columns schema r)) (ok_is (row_of schema columns value.0) row made) is)
 
--- what is read is stored so
-pub row_took : (schema : Schema) (columns : List Column) (input : List ℕ) (place : ℕ) (read : StoredRow × ℕ) → row_at schema columns input place ≡ Ok read → Took input place read.1 (StoresRow columns schema read.0)
-unfolding row_at
-row_took schema columns input place read is =
-    bind_then (map_refusal datum_refusal (datum_at schema input (start place))) _ read is (λ value value_read others.
-    bind_then (checked_row columns (row_of schema columns value.0)) _ read others (λ row checked made.
-    subst (λ (r : StoredRow × ℕ). Took input place r.1 (StoresRow columns schema r.0)) (ok_is (row, value.1.place) read made)
-    (row_is schema columns input place value row (map_ok datum_refusal (datum_at schema input (start place)) value value_read) checked)))
+  -- what is read is stored so
+  pub row_took : (schema : Schema) (columns : List Column) (input : List ℕ) (place : ℕ) (read : StoredRow × ℕ) → row_at schema columns input place ≡ Ok read → Took input place read.1 (StoresRow columns schema read.0)
+  unfolding row_at
+  row_took schema columns input place read is =
+      bind_then (map_refusal datum_refusal (datum_at schema input (start place))) _ read is (λ value value_read others.
+      bind_then (checked_row columns (row_of schema columns value.0)) _ read others (λ row checked made.
+      subst (λ (r : StoredRow × ℕ). Took input place r.1 (StoresRow columns schema r.0)) (ok_is (row, value.1.place) read made)
+      (row_is schema columns input place value row (map_ok datum_refusal (datum_at schema input (start place)) value value_read) checked)))
 
--- what is stored so is read
-pub row_again : (schema : Schema) (columns : List Column) (input : List ℕ) (place after : ℕ) (row : StoredRow) (bytes : List ℕ) → StoresRow columns schema row bytes → Stand input place after bytes → row_at schema columns input place ≡ Ok (row, after)
-unfolding row_at
-row_again schema columns input place after row bytes stores stand =
-    let behind : Cursor = record { place = after; items = items_in stores.datum } in
-    let passes : Passes input (start place) behind bytes (items_in stores.datum) = record { stand = stand; counts = omega arith; few = stores.encoded.few } in
-    let read = (agrees_datum schema).complete input (start place) behind stores.datum bytes stores.encoded.spelled passes in
-    ap (λ r. map_refusal datum_refusal r >>= λ value. checked_row columns (row_of schema columns value.0) >>= λ row. Ok (row, value.1.place)) read
-    ∙ ap (λ r. r >>= λ row. Ok (row, after)) (row_checked columns row (row_of schema columns stores.datum) stores.stored stores.nulls)
+  -- what is stored so is read
+  pub row_again : (schema : Schema) (columns : List Column) (input : List ℕ) (place after : ℕ) (row : StoredRow) (bytes : List ℕ) → StoresRow columns schema row bytes → Stand input place after bytes → row_at schema columns input place ≡ Ok (row, after)
+  unfolding row_at
+  row_again schema columns input place after row bytes stores stand =
+      let behind : Cursor = record { place = after; items = items_in stores.datum } in
+      let passes : Passes input (start place) behind bytes (items_in stores.datum) = record { stand = stand; counts = omega arith; few = stores.encoded.few } in
+      let read = (agrees schema).complete input (start place) behind stores.datum bytes stores.encoded.spelled passes in
+      ap (λ r. map_refusal datum_refusal r >>= λ value. checked_row columns (row_of schema columns value.0) >>= λ row. Ok (row, value.1.place)) read
+      ∙ ap (λ r. r >>= λ row. Ok (row, after)) (row_checked columns row (row_of schema columns stores.datum) stores.stored stores.nulls)

@@ -6,3 +6,4 @@ pub mod Checking
 pub mod Checked
 pub mod Fault
 pub mod Columns
+pub mod Laws

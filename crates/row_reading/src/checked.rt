@@ -18,6 +18,7 @@ ghost use Rattle.row_reading.specs.Checked.{IsRest, rest_of_file};
 use crate::block::rows_told;
 use crate::checking::{checked_layout, checked_row};
 use stored_rows::{row_id, row_last};
+use crate::law::reading_agrees;
 use crate::opening::open_file;
 use stored_rows::RowRefusal;
 use crate::row::{Layout, RowRef, take_row};
@@ -158,6 +159,7 @@ pub fn check_file<'a>(
     ensures exact { Gives is_memory (λ rows. rows.left) result
         (rows_of bytes.now columns.now first sequence told) }
 {
+    reading_agrees();
     check_all(alloc, bytes, columns, first, sequence, told)
 }
 

@@ -9,6 +9,7 @@
 //! | `block`, `checking` | the checks of a file's blocks; those of the whole file, in their order |
 //! | `checked` | the rows of a file that was checked |
 //! | `reading` | reading all rows of a file |
+//! | `law` | what the reading of a file and what it stores have to do with each other |
 #![tactic(auto)]
 
 mod block;
@@ -16,6 +17,7 @@ mod checked;
 mod checking;
 mod columns;
 mod form;
+mod law;
 mod opening;
 mod plan;
 mod reading;
@@ -23,4 +25,5 @@ mod row;
 
 pub use checked::{CheckedRows, check_file};
 pub use columns::file_columns;
+pub use law::reading_agrees;
 pub use reading::read_rows;

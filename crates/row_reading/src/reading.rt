@@ -10,6 +10,7 @@ ghost use Rattle.stored_rows.specs.Rows.{rows_from};
 ghost use Rattle.stored_rows.specs.Stored.{StoresRows, ReadsRows, AreRead};
 
 use crate::checked::{CheckedRows, check_file};
+use crate::law::reading_agrees;
 use stored_rows::RowRefusal;
 use lists::List;
 use row_types::{CellRef, Cells, Columns, Row, RowList};
@@ -35,6 +36,7 @@ pub fn read_rows(
     ensures exact { Gives is_memory (λ rows. rows) result
         (rows_of bytes.now columns.now first sequence told) }
 {
+    reading_agrees();
     read_all(alloc, bytes, columns, first, sequence, told)
 }
 

@@ -8,9 +8,9 @@ use Rattle.row_reading.proofs.checked.check_file.Goals as goal
 pub returns-clause-found : goal.returns-clause-found
 returns-clause-found c =
     let fits : SFits w64 c.args.sequence = search rules in
-    is_found (λ (rows : Shown). rows.left) c.args.bytes.now c.args.columns.now c.args.first c.args.sequence c.args.told c.check_all.result (simp to_z-of_z at c.check_all.ensures.exact)
+    is_found c.reading_agrees.ensures.found (λ (rows : Shown). rows.left) c.args.bytes.now c.args.columns.now c.args.first c.args.sequence c.args.told c.check_all.result (simp to_z-of_z at c.check_all.ensures.exact)
 
 pub returns-clause-only : goal.returns-clause-only
 returns-clause-only c =
     let fits : SFits w64 c.args.sequence = search rules in
-    is_only (λ (rows : Shown). rows.left) c.args.bytes.now c.args.columns.now c.args.first c.args.sequence c.args.told c.check_all.result (simp to_z-of_z at c.check_all.ensures.exact)
+    is_only c.reading_agrees.ensures.only (λ (rows : Shown). rows.left) c.args.bytes.now c.args.columns.now c.args.first c.args.sequence c.args.told c.check_all.result (simp to_z-of_z at c.check_all.ensures.exact)
