@@ -1,23 +1,6 @@
 -- What is read of a list is a union of the branches that its values mean.
-use Rattle.std.proofs.Common.{
-  ◌≡◌,
-  ◌≢◌,
-  ℕ,
-  ◌+◌,
-  ◌≤◌,
-  List,
-  [],
-  ◌∷◌,
-  ◌++◌,
-  Ok,
-  decimal,
-  append_assoc,
-  append-nil,
-  sym,
-  subst,
-  ◌∙◌,
-  arith,
-}
+use Rattle.std.proofs.Common.{◌≡◌, ◌≢◌, ℕ, ◌+◌, ◌≤◌, List, [], ◌∷◌, ◌++◌, Ok, decimal, append_assoc, append-nil, sym}
+use Rattle.std.proofs.Common.{subst, ◌∙◌, arith}
 use Rattle.serde_json.specs.Data.{Data, array, Items}
 use Rattle.schema_tree.specs.declared.schema.Schema.{Schema}
 use Rattle.schema_tree.specs.declared.schema.Schema.TheVariants as schemas

@@ -1,24 +1,6 @@
 -- What is read of a record's values are the fields that they mean.
-use Rattle.std.proofs.Common.{
-  ◌≡◌,
-  ℕ,
-  ◌+◌,
-  ◌≤◌,
-  List,
-  [],
-  ◌∷◌,
-  ◌++◌,
-  codes,
-  Result,
-  Ok,
-  decimal,
-  refl,
-  sym,
-  ap,
-  subst,
-  ◌∙◌,
-  arith,
-}
+use Rattle.std.proofs.Common.{◌≡◌, ℕ, ◌+◌, ◌≤◌, List, [], ◌∷◌, ◌++◌, codes, Result, Ok, decimal, refl, sym, ap, subst}
+use Rattle.std.proofs.Common.{◌∙◌, arith}
 use Rattle.serde_json.specs.Data.{Data, null, boolean, number, string, array, object, Members}
 use Rattle.schema_tree.specs.declared.schema.Field.{Field}
 use Rattle.avro_schema.specs.declared.refusal.SchemaRefusal.{SchemaRefusal}

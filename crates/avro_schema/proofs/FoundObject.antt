@@ -1,25 +1,6 @@
 -- What is read of an object is what it means.
-use Rattle.std.proofs.Common.{
-  ◌≡◌,
-  ℕ,
-  ◌+◌,
-  ◌≤◌,
-  true,
-  List,
-  [],
-  codes,
-  Option,
-  Some,
-  None,
-  Ok,
-  Err,
-  refl,
-  sym,
-  ap,
-  subst,
-  ◌∙◌,
-  arith,
-}
+use Rattle.std.proofs.Common.{◌≡◌, ℕ, ◌+◌, ◌≤◌, true, List, [], codes, Option, Some, None, Ok, Err, refl, sym, ap}
+use Rattle.std.proofs.Common.{subst, ◌∙◌, arith}
 use Rattle.std.proofs.lemmas.Slice.Eq.{bytes_eq-Decides}
 use Rattle.std.specs.Str.{bytes_eq}
 use Rattle.words.specs.Reading.{◌>>=◌}
@@ -31,47 +12,14 @@ use Rattle.avro_schema.specs.declared.refusal.SchemaRefusal.TheVariants.{Form}
 use Rattle.avro_schema.specs.Refusal.{under}
 use Rattle.avro_schema.specs.Member.{needed, text_at, list_at, fixed_size_at, id_at, is_text}
 use Rattle.avro_schema.specs.Defined.{Definitions, Seen, namespace_of, with_name, begun, defined}
-use Rattle.avro_schema.specs.Reading.{
-  Reader,
-  primitive_of,
-  logical_of,
-  counted,
-  name_at,
-  fields_at,
-  texts_at,
-  record_at,
-  enum_at,
-  fixed_at,
-  array_at,
-  map_at,
-  complex_at,
-  typed_at,
-  layer_at,
-}
-use Rattle.avro_schema.specs.Meaning.{
-  Means,
-  primitive_type,
-  record_type,
-  enum_type,
-  fixed_type,
-  array_type,
-  map_type,
-  AreTexts,
-  HasType,
-}
+use Rattle.avro_schema.specs.Reading.{Reader, primitive_of, logical_of, counted, name_at, fields_at, texts_at}
+use Rattle.avro_schema.specs.Reading.{record_at, enum_at, fixed_at, array_at, map_at, complex_at, typed_at, layer_at}
+use Rattle.avro_schema.specs.Meaning.{Means, primitive_type, record_type, enum_type, fixed_type, array_type, map_type}
+use Rattle.avro_schema.specs.Meaning.{AreTexts, HasType}
 use Rattle.words.specs.Steps.{bind_then, either_then, ok_is}
 use Rattle.avro_schema.proofs.Steps.{count_then, more, under_ok}
-use Rattle.schema_tree.specs.TreeLaws.{
-  IsAlone,
-  alone-Fixed,
-  alone-Enum,
-  depth-Rec,
-  size-Rec,
-  depth-Array,
-  size-Array,
-  depth-Map,
-  size-Map,
-}
+use Rattle.schema_tree.specs.TreeLaws.{IsAlone, alone-Fixed, alone-Enum, depth-Rec, size-Rec, depth-Array, size-Array}
+use Rattle.schema_tree.specs.TreeLaws.{depth-Map, size-Map}
 use Rattle.avro_schema.proofs.PrimitiveLaws.{alone_primitive, alone_logical}
 use Rattle.avro_schema.proofs.MeansPart.{name_found, needed_found, TextsFound, texts_found}
 use Rattle.avro_schema.proofs.Found.{Found, Finds}

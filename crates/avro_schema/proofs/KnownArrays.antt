@@ -1,5 +1,6 @@
 -- Arrays: their texts are read again.
-use Rattle.std.proofs.Common.{◌≡◌, ℕ, zero, suc, ◌+◌, ◌≤◌, ℤ, Bool, true, [], ◌∷◌, ◌++◌, Option, Some, Ok, codes, option_map, option_and_then, refl, sym, ap, ap₂, ◌∙◌, arith, append_assoc}
+use Rattle.std.proofs.Common.{◌≡◌, ℕ, zero, suc, ◌+◌, ◌≤◌, ℤ, Bool, true, [], ◌∷◌, ◌++◌, Option, Some, Ok, codes}
+use Rattle.std.proofs.Common.{option_map, option_and_then, refl, sym, ap, ap₂, ◌∙◌, arith, append_assoc}
 use Rattle.std.proofs.lemmas.Bool.{and_parts}
 use Rattle.json.specs.Token.{Token}
 use Rattle.json.specs.Json as json
@@ -20,7 +21,9 @@ use Rattle.avro_schema.specs.Member.{id_at, needed, or_form, is_text}
 use Rattle.avro_schema.specs.Reading.{array_at, schema_at}
 use Rattle.schema_tree.specs.Equations.{fold_array}
 use Rattle.avro_schema.proofs.TakenLaws.{AreFree}
-use Rattle.avro_schema.proofs.WrittenParts.{id_json, id_tokens, id_numbers, id_depth, id_read, keyed_json, keyed_put, keyed_tokens, keyed_numbers, keyed_depth, keyed_read, array_members, array_type, array_items, array_keyed, array_id}
+use Rattle.avro_schema.proofs.WrittenParts.{id_json, id_tokens, id_numbers, id_depth, id_read, keyed_json, keyed_put}
+use Rattle.avro_schema.proofs.WrittenParts.{keyed_tokens, keyed_numbers, keyed_depth, keyed_read, array_members}
+use Rattle.avro_schema.proofs.WrittenParts.{array_type, array_items, array_keyed, array_id}
 use Rattle.avro_schema.proofs.Known.{Reads, Known, IsKnown, known_by, counts, more_seen, typed}
 
 array_reads : (room : ℕ) (after : Seen) (members : Members) (id : Option ℤ) (value : Data) (items : Schema) (done : Seen) (keyed : Bool)

@@ -1,5 +1,7 @@
 -- Fields: their texts are read again.
-use Rattle.std.proofs.Common.{◌≡◌, ℕ, suc, ◌+◌, ◌≤◌, max, ℤ, Bool, true, false, not, List, [], ◌∷◌, ◌++◌, map, flat_map, Option, Some, Ok, codes, decimal, option_map, option_and_then, refl, sym, ap, ap₂, ◌∙◌, arith, append_assoc, append-nil}
+use Rattle.std.proofs.Common.{◌≡◌, ℕ, suc, ◌+◌, ◌≤◌, max, ℤ, Bool, true, false, not, List, [], ◌∷◌, ◌++◌, map}
+use Rattle.std.proofs.Common.{flat_map, Option, Some, Ok, codes, decimal, option_map, option_and_then, refl, sym, ap}
+use Rattle.std.proofs.Common.{ap₂, ◌∙◌, arith, append_assoc, append-nil}
 use Rattle.std.proofs.lemmas.Bool.{and_parts, or_parts, or_from, not-true}
 use Rattle.std.proofs.lemmas.List.Folds.{list_any-append}
 use Rattle.std.proofs.lemmas.List.Sums.{sum_by-cons}
@@ -16,8 +18,10 @@ use Rattle.schema_tree.specs.declared.schema.Schema.{Schema}
 use Rattle.schema_tree.specs.declared.schema.Field.{Field, out-Field, roll-Field}
 use Rattle.schema_tree.specs.declared.schema.Schema.TheViews.{roll-out-Field}
 use Rattle.avro_schema.specs.Refusal.{under}
-use Rattle.avro_schema.specs.Printing.{Written, written, written_of, written_field, id_member, default_member, all_tokens}
-use Rattle.avro_schema.specs.Printable.{Spelled, SpelledField, spelled, spelled_of, spelled_field, are_distinct, levels_of, schemas_of, field_names, field_levels}
+use Rattle.avro_schema.specs.Printing.{Written, written, written_of, written_field, id_member, default_member}
+use Rattle.avro_schema.specs.Printing.{all_tokens}
+use Rattle.avro_schema.specs.Printable.{Spelled, SpelledField, spelled, spelled_of, spelled_field, are_distinct}
+use Rattle.avro_schema.specs.Printable.{levels_of, schemas_of, field_names, field_levels}
 use Rattle.schema_tree.specs.Tree.{depth, size, depth_of, size_of, number_of_field, largest}
 use Rattle.schema_tree.specs.Ids.{is_id, all_true, has_ids, ids_of, ids_of_field}
 use Rattle.avro_schema.specs.Defined.{Seen}
@@ -26,7 +30,9 @@ use Rattle.avro_schema.specs.Reading.{field_at, fields_at, new_field_name, has_f
 use Rattle.schema_tree.specs.Equations.{of_field}
 use Rattle.schema_tree.specs.Inductions.{Each}
 use Rattle.avro_schema.proofs.TakenLaws.{AreFree, parted, still_free, free_parts, keeps_then}
-use Rattle.avro_schema.proofs.WrittenParts.{id_json, id_tokens, id_numbers, id_depth, id_read, default_json, default_put, default_tokens, default_numbers, default_depth, default_read, field_members, field_name, field_type, field_id}
+use Rattle.avro_schema.proofs.WrittenParts.{id_json, id_tokens, id_numbers, id_depth, id_read, default_json}
+use Rattle.avro_schema.proofs.WrittenParts.{default_put, default_tokens, default_numbers, default_depth, default_read}
+use Rattle.avro_schema.proofs.WrittenParts.{field_members, field_name, field_type, field_id}
 use Rattle.avro_schema.proofs.Known.{Reads, Known, IsKnown}
 
 -- the names that schemas define

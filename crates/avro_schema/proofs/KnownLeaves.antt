@@ -11,7 +11,8 @@ use Rattle.avro_schema.specs.Printing.{written_of, written_field}
 use Rattle.avro_schema.specs.Printable.{spelled_of, spelled_field}
 use Rattle.schema_tree.specs.Tree.{depth_of, size_of, number_of_field}
 use Rattle.schema_tree.specs.Ids.{ids_of, ids_of_field}
-use Rattle.schema_tree.specs.Equations.{fold_null, fold_boolean, fold_int, fold_long, fold_float, fold_double, fold_raw, fold_str}
+use Rattle.schema_tree.specs.Equations.{fold_null, fold_boolean, fold_int, fold_long, fold_float, fold_double}
+use Rattle.schema_tree.specs.Equations.{fold_raw, fold_str}
 use Rattle.avro_schema.proofs.Known.{Known, IsKnown, known_by, leaf, word_known, typed}
 
 -- ---- words

@@ -1,5 +1,6 @@
 -- Maps: their texts are read again.
-use Rattle.std.proofs.Common.{◌≡◌, ℕ, zero, suc, ◌+◌, ◌≤◌, ℤ, true, [], ◌∷◌, ◌++◌, Option, Some, Ok, codes, option_map, option_and_then, refl, sym, ap, ap₂, ◌∙◌, arith, append_assoc}
+use Rattle.std.proofs.Common.{◌≡◌, ℕ, zero, suc, ◌+◌, ◌≤◌, ℤ, true, [], ◌∷◌, ◌++◌, Option, Some, Ok, codes}
+use Rattle.std.proofs.Common.{option_map, option_and_then, refl, sym, ap, ap₂, ◌∙◌, arith, append_assoc}
 use Rattle.std.proofs.lemmas.Bool.{and_parts}
 use Rattle.json.specs.Token.{Token}
 use Rattle.json.specs.Json as json
@@ -20,7 +21,8 @@ use Rattle.avro_schema.specs.Member.{id_at, needed, or_form}
 use Rattle.avro_schema.specs.Reading.{map_at, schema_at}
 use Rattle.schema_tree.specs.Equations.{fold_map}
 use Rattle.avro_schema.proofs.TakenLaws.{AreFree}
-use Rattle.avro_schema.proofs.WrittenParts.{id_json, id_put, id_tokens, id_numbers, id_depth, id_read, map_members, map_type, map_values, map_key, map_value_id}
+use Rattle.avro_schema.proofs.WrittenParts.{id_json, id_put, id_tokens, id_numbers, id_depth, id_read, map_members}
+use Rattle.avro_schema.proofs.WrittenParts.{map_type, map_values, map_key, map_value_id}
 use Rattle.avro_schema.proofs.Known.{Reads, Known, IsKnown, known_by, counts, more_seen, typed}
 
 map_reads : (room : ℕ) (after : Seen) (members : Members) (key_id value_id : Option ℤ) (value : Data) (values : Schema) (done : Seen)

@@ -1,11 +1,14 @@
 -- Schemas that define a name, without another schema in them.
-use Rattle.std.proofs.Common.{◌≡◌, ℕ, zero, suc, ◌+◌, ◌≤◌, ◌<◌, ◌^◌, true, false, List, [], ◌∷◌, ◌++◌, Some, None, Ok, codes, decimal, option_map, option_and_then, refl, sym, ap, ◌∙◌, arith, append_assoc, append-nil, flat_map}
+use Rattle.std.proofs.Common.{◌≡◌, ℕ, zero, suc, ◌+◌, ◌≤◌, ◌<◌, ◌^◌, true, false, List, [], ◌∷◌, ◌++◌, Some, None, Ok}
+use Rattle.std.proofs.Common.{codes, decimal, option_map, option_and_then, refl, sym, ap, ◌∙◌, arith, append_assoc}
+use Rattle.std.proofs.Common.{append-nil, flat_map}
 use Rattle.std.proofs.lemmas.Bool.{and_parts, or_parts, leb-true, le-ltb}
 use Rattle.json.specs.Token.{Token}
 use Rattle.json.specs.Json as json
 use Rattle.json.specs.Tree as tree
 use Rattle.json.proofs.Printed.Decimals.{IsNumber-decimal}
-use Rattle.serde_json.specs.Data.{number, unsigned, string, array, object, Items, no_items, item, Members, no_members, put}
+use Rattle.serde_json.specs.Data.{number, unsigned, string, array, object, Items, no_items, item, Members, no_members}
+use Rattle.serde_json.specs.Data.{put}
 use Rattle.serde_json.specs.Read.{of_items}
 use Rattle.serde_json.proofs.Numbers.{number_of-decimal}
 use Rattle.words.specs.Reading.{◌>>=◌}
@@ -18,7 +21,8 @@ use Rattle.schema_tree.specs.Tree.{depth_of, size_of, number_of_field}
 use Rattle.schema_tree.specs.Ids.{ids_of, ids_of_field}
 use Rattle.avro_schema.specs.Defined.{Seen, is_taken, defined, full_name}
 use Rattle.avro_schema.specs.Member.{values_of, text_at, list_at, fixed_size_at}
-use Rattle.avro_schema.specs.Reading.{scope_of, namespace_at, name_at, checked_name, texts_at, fixed_at, enum_at, schema_at}
+use Rattle.avro_schema.specs.Reading.{scope_of, namespace_at, name_at, checked_name, texts_at, fixed_at, enum_at}
+use Rattle.avro_schema.specs.Reading.{schema_at}
 use Rattle.schema_tree.specs.Equations.{fold_fixed, fold_enum}
 use Rattle.avro_schema.proofs.TakenLaws.{AreFree, keeps_defined}
 use Rattle.avro_schema.proofs.Known.{Reads, Known, IsKnown, known_by, counts, more_seen, typed}

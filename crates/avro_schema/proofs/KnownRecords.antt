@@ -1,5 +1,6 @@
 -- Records: their texts are read again.
-use Rattle.std.proofs.Common.{◌≡◌, ℕ, zero, suc, ◌+◌, ◌≤◌, true, false, ◌&&◌, List, [], ◌∷◌, ◌++◌, map, Some, None, Ok, codes, option_map, option_and_then, refl, ap, ◌∙◌, arith}
+use Rattle.std.proofs.Common.{◌≡◌, ℕ, zero, suc, ◌+◌, ◌≤◌, true, false, ◌&&◌, List, [], ◌∷◌, ◌++◌, map, Some, None}
+use Rattle.std.proofs.Common.{Ok, codes, option_map, option_and_then, refl, ap, ◌∙◌, arith}
 use Rattle.std.proofs.lemmas.Bool.{and_parts, or_parts, or_from}
 use Rattle.std.specs.List.{list_all, list_any, sum}
 use Rattle.std.specs.Str.{bytes_eq}
@@ -23,7 +24,8 @@ use Rattle.schema_tree.specs.Inductions.{Each}
 use Rattle.avro_schema.proofs.TakenLaws.{AreFree, Keeps, no_namespace, parted, still_free, free_parts, keeps_defined}
 use Rattle.avro_schema.proofs.KnownNamed.{named}
 use Rattle.avro_schema.proofs.Known.{Reads, Known, IsKnown, known_by, counts, more_seen, typed}
-use Rattle.avro_schema.proofs.KnownFields.{field_schema, field_written, field_spelled, field_depth, field_size, field_ids, inner_names, KnownFields, known_fields}
+use Rattle.avro_schema.proofs.KnownFields.{field_schema, field_written, field_spelled, field_depth, field_size}
+use Rattle.avro_schema.proofs.KnownFields.{field_ids, inner_names, KnownFields, known_fields}
 
 record_json : List ℕ → json.Items → json.Json
 record_json name texts =

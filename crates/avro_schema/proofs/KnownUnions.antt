@@ -1,5 +1,7 @@
 -- Unions: the texts of their branches are read again.
-use Rattle.std.proofs.Common.{◌≡◌, ℕ, zero, suc, ◌+◌, ◌≤◌, max, true, false, not, ◌&&◌, List, [], ◌∷◌, ◌++◌, map, flat_map, Some, Ok, decimal, option_map, option_and_then, refl, sym, ap, ap₂, ◌∙◌, arith, append_assoc, append-nil}
+use Rattle.std.proofs.Common.{◌≡◌, ℕ, zero, suc, ◌+◌, ◌≤◌, max, true, false, not, ◌&&◌, List, [], ◌∷◌, ◌++◌, map}
+use Rattle.std.proofs.Common.{flat_map, Some, Ok, decimal, option_map, option_and_then, refl, sym, ap, ap₂, ◌∙◌}
+use Rattle.std.proofs.Common.{arith, append_assoc, append-nil}
 use Rattle.std.proofs.lemmas.Bool.{and_parts, not-true, true≢false, false≢true}
 use Rattle.std.proofs.lemmas.List.Sums.{sum_by-cons}
 use Rattle.std.specs.List.{list_all, sum}
@@ -14,7 +16,8 @@ use Rattle.schema_tree.specs.declared.schema.Schema.TheVariants as schemas
 use Rattle.schema_tree.specs.declared.schema.Schema.TheOpen as open_schema
 use Rattle.avro_schema.specs.Refusal.{under}
 use Rattle.avro_schema.specs.Printing.{written, written_of, written_field, all_tokens}
-use Rattle.avro_schema.specs.Printable.{Spelled, spelled, spelled_of, spelled_field, are_distinct, is_some_list, levels_of}
+use Rattle.avro_schema.specs.Printable.{Spelled, spelled, spelled_of, spelled_field, are_distinct, is_some_list}
+use Rattle.avro_schema.specs.Printable.{levels_of}
 use Rattle.schema_tree.specs.Tree.{depth, size, depth_of, size_of, number_of_field, largest}
 use Rattle.schema_tree.specs.Ids.{all_true, has_ids, ids_of, ids_of_field}
 use Rattle.avro_schema.specs.Defined.{Seen}

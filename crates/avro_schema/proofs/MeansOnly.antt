@@ -5,35 +5,15 @@ use Rattle.schema_tree.specs.declared.schema.Schema.{Schema}
 use Rattle.schema_tree.specs.declared.schema.Field.{Field}
 use Rattle.schema_tree.specs.Measure.{depth_of_fields, size_of_fields}
 use Rattle.avro_schema.specs.Defined.{Definitions}
-use Rattle.avro_schema.specs.Meaning.{
-  Means,
-  primitive_word,
-  union,
-  primitive_type,
-  record_type,
-  enum_type,
-  fixed_type,
-  array_type,
-  map_type,
-  AreBranches,
-  no_branch,
-  branch,
-  AreFields,
-  no_field,
-  field,
-}
+use Rattle.avro_schema.specs.Meaning.{Means, primitive_word, union, primitive_type, record_type, enum_type}
+use Rattle.avro_schema.specs.Meaning.{fixed_type, array_type, map_type, AreBranches, no_branch, branch, AreFields}
+use Rattle.avro_schema.specs.Meaning.{no_field, field}
 use Rattle.schema_tree.specs.TreeLaws.{depth-push, size-push}
 use Rattle.avro_schema.proofs.Only.{IsRead, AreBranchesRead, AreFieldsRead, primitive_only, use_only}
 use Rattle.avro_schema.proofs.OnlyBranches.{no_branch_only, one_branch_only, union_only}
 use Rattle.avro_schema.proofs.OnlyFields.{no_field_only, one_field_only}
-use Rattle.avro_schema.proofs.OnlyObject.{
-  primitive_type_only,
-  record_only,
-  enum_only,
-  fixed_only,
-  array_only,
-  map_only,
-}
+use Rattle.avro_schema.proofs.OnlyObject.{primitive_type_only, record_only, enum_only, fixed_only, array_only}
+use Rattle.avro_schema.proofs.OnlyObject.{map_only}
 
 -- fields behind others are neither fewer nor flatter than those
 record Grown (before after : List Field) : Type 0 where

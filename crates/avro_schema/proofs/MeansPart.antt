@@ -1,30 +1,6 @@
 -- What is read of a schema's parts, and what the relation says of them: names, texts, members.
-use Rattle.std.proofs.Common.{
-  ◌≡◌,
-  ◌≢◌,
-  ℕ,
-  ◌+◌,
-  false,
-  List,
-  [],
-  ◌∷◌,
-  ◌++◌,
-  codes,
-  Option,
-  Some,
-  None,
-  Result,
-  Ok,
-  Err,
-  decimal,
-  append_assoc,
-  append-nil,
-  refl,
-  sym,
-  ap,
-  subst,
-  ◌∙◌,
-}
+use Rattle.std.proofs.Common.{◌≡◌, ◌≢◌, ℕ, ◌+◌, false, List, [], ◌∷◌, ◌++◌, codes, Option, Some, None, Result, Ok}
+use Rattle.std.proofs.Common.{Err, decimal, append_assoc, append-nil, refl, sym, ap, subst, ◌∙◌}
 use Rattle.words.specs.Reading.{◌>>=◌}
 use Rattle.serde_json.specs.Data.{Data, null, boolean, number, string, array, object, Members}
 use Rattle.serde_json.specs.Find.{get_member}
@@ -34,16 +10,8 @@ use Rattle.avro_schema.specs.declared.refusal.SchemaRefusal.{SchemaRefusal}
 use Rattle.avro_schema.specs.declared.refusal.SchemaRefusal.TheVariants.{Form}
 use Rattle.avro_schema.specs.Member.{text_of, or_form, needed, text_at}
 use Rattle.avro_schema.specs.Defined.{Seen, full_name, is_taken}
-use Rattle.avro_schema.specs.Reading.{
-  scope_of,
-  namespace_at,
-  checked_name,
-  name_at,
-  has_field,
-  new_field_name,
-  texts_at,
-  branch_at,
-}
+use Rattle.avro_schema.specs.Reading.{scope_of, namespace_at, checked_name, name_at, has_field, new_field_name}
+use Rattle.avro_schema.specs.Reading.{texts_at, branch_at}
 use Rattle.avro_schema.specs.Meaning.{Defines, AreTexts, IsNoUnion}
 use Rattle.words.specs.Steps.{bind_then, test_then, ok_is}
 use Rattle.avro_schema.proofs.Steps.{form_ok}

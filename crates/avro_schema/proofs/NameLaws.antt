@@ -1,5 +1,6 @@
 -- The last dot of a name, looked for from its end.
-use Rattle.std.proofs.Common.{◌≡◌, ℕ, zero, suc, ◌<◌, ◌==◌, ◌||◌, Bool, if◌then◌else◌, true, false, List, [], ◌∷◌, length, get_or, take, drop, refl, arith}
+use Rattle.std.proofs.Common.{◌≡◌, ℕ, zero, suc, ◌<◌, ◌==◌, ◌||◌, Bool, if◌then◌else◌, true, false, List, [], ◌∷◌}
+use Rattle.std.proofs.Common.{length, get_or, take, drop, refl, arith}
 use Rattle.avro_schema.specs.Defined.{has_dot, namespace_of}
 
 -- a dot somewhere in a name

@@ -1,24 +1,6 @@
 -- The union that a list means is read of it, by what is read of its values.
-use Rattle.std.proofs.Common.{
-  ◌≡◌,
-  ◌≢◌,
-  ℕ,
-  ◌+◌,
-  ◌≤◌,
-  List,
-  [],
-  ◌∷◌,
-  ◌++◌,
-  Ok,
-  decimal,
-  append_assoc,
-  append-nil,
-  refl,
-  sym,
-  ap,
-  ◌∙◌,
-  arith,
-}
+use Rattle.std.proofs.Common.{◌≡◌, ◌≢◌, ℕ, ◌+◌, ◌≤◌, List, [], ◌∷◌, ◌++◌, Ok, decimal, append_assoc, append-nil, refl}
+use Rattle.std.proofs.Common.{sym, ap, ◌∙◌, arith}
 use Rattle.words.specs.Reading.{map_value}
 use Rattle.serde_json.specs.Data.{Data, array, Items}
 use Rattle.schema_tree.specs.declared.schema.Schema.{Schema}

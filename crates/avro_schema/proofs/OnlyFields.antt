@@ -1,25 +1,6 @@
 -- The fields that a record's values mean are read of them, by what is read in each.
-use Rattle.std.proofs.Common.{
-  ◌≡◌,
-  ℕ,
-  ◌+◌,
-  ◌≤◌,
-  false,
-  ℤ,
-  List,
-  [],
-  ◌∷◌,
-  ◌++◌,
-  codes,
-  Option,
-  Some,
-  Ok,
-  decimal,
-  refl,
-  ap,
-  ◌∙◌,
-  arith,
-}
+use Rattle.std.proofs.Common.{◌≡◌, ℕ, ◌+◌, ◌≤◌, false, ℤ, List, [], ◌∷◌, ◌++◌, codes, Option, Some, Ok, decimal, refl}
+use Rattle.std.proofs.Common.{ap, ◌∙◌, arith}
 use Rattle.serde_json.specs.Data.{Data, object, Members}
 use Rattle.serde_json.specs.Find.{get_member}
 use Rattle.schema_tree.specs.declared.schema.Schema.{Schema}

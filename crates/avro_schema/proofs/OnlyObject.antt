@@ -12,31 +12,14 @@ use Rattle.schema_tree.specs.Measure.{size_of_fields}
 use Rattle.avro_schema.specs.Member.{needed, text_at, list_at, fixed_size_at, id_at, is_text}
 use Rattle.avro_schema.specs.Defined.{Definitions, Seen, with_name, namespace_of}
 use Rattle.avro_schema.specs.Parts.{schema_below}
-use Rattle.avro_schema.specs.Reading.{
-  Reader,
-  primitive_of,
-  logical_of,
-  name_at,
-  fields_at,
-  texts_at,
-  typed_at,
-  schema_at,
-}
+use Rattle.avro_schema.specs.Reading.{Reader, primitive_of, logical_of, name_at, fields_at, texts_at, typed_at}
+use Rattle.avro_schema.specs.Reading.{schema_at}
 use Rattle.avro_schema.specs.Meaning.{Defines, AreTexts, HasType}
 use Rattle.avro_schema.proofs.PartLaws.{schema_layer}
 use Rattle.words.specs.Steps.{bind_only}
 use Rattle.avro_schema.proofs.Steps.{count_only, met}
-use Rattle.schema_tree.specs.TreeLaws.{
-  IsAlone,
-  alone-Fixed,
-  alone-Enum,
-  depth-Rec,
-  size-Rec,
-  depth-Array,
-  size-Array,
-  depth-Map,
-  size-Map,
-}
+use Rattle.schema_tree.specs.TreeLaws.{IsAlone, alone-Fixed, alone-Enum, depth-Rec, size-Rec, depth-Array, size-Array}
+use Rattle.schema_tree.specs.TreeLaws.{depth-Map, size-Map}
 use Rattle.avro_schema.proofs.PrimitiveLaws.{alone_primitive, alone_logical}
 use Rattle.avro_schema.proofs.MeansPart.{name_only, needed_only, texts_only}
 use Rattle.avro_schema.proofs.Only.{IsRead, AreFieldsRead, below_only, same_count}

@@ -5,17 +5,8 @@ use Rattle.serde_json.specs.Data.{Members}
 use Rattle.schema_tree.specs.declared.schema.Logical.TheVariants.{Plain}
 use Rattle.schema_tree.specs.declared.schema.Schema.{Schema}
 use Rattle.schema_tree.specs.declared.schema.Schema.TheVariants as schemas
-use Rattle.schema_tree.specs.TreeLaws.{
-  IsAlone,
-  alone-Null,
-  alone-Boolean,
-  alone-Int,
-  alone-Long,
-  alone-Float,
-  alone-Double,
-  alone-Raw,
-  alone-Str,
-}
+use Rattle.schema_tree.specs.TreeLaws.{IsAlone, alone-Null, alone-Boolean, alone-Int, alone-Long, alone-Float}
+use Rattle.schema_tree.specs.TreeLaws.{alone-Double, alone-Raw, alone-Str}
 use Rattle.avro_schema.specs.Reading.{primitive_of, logical_of, logical_int, logical_long}
 
 -- what is there is alone

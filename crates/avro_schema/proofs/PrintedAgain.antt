@@ -1,6 +1,7 @@
 -- The text of a schema is read as the schema.
 use Rattle.std.specs.List.{list_any}
-use Rattle.std.proofs.Common.{◌≡◌, ℕ, ◌≤◌, ◌∷◌, true, false, List, [], Some, Ok, option_and_then, refl, sym, ap, ◌∙◌, arith, append-nil}
+use Rattle.std.proofs.Common.{◌≡◌, ℕ, ◌≤◌, ◌∷◌, true, false, List, [], Some, Ok, option_and_then, refl, sym, ap, ◌∙◌}
+use Rattle.std.proofs.Common.{arith, append-nil}
 use Rattle.std.proofs.lemmas.Str.{is_utf8-from_IsUtf8}
 use Rattle.std.specs.Str.{IsUtf8}
 use Rattle.json.specs.Print.{print}
@@ -19,7 +20,8 @@ use Rattle.json_members.specs.ParseLaws.{value_of_json}
 use Rattle.avro_schema.specs.Reading.{schema_of, schema_of_json}
 use Rattle.schema_tree.specs.Inductions.{every}
 use Rattle.avro_schema.proofs.Known.{IsKnown}
-use Rattle.avro_schema.proofs.KnownLeaves.{null_known, boolean_known, int_known, long_known, float_known, double_known, raw_known, str_known}
+use Rattle.avro_schema.proofs.KnownLeaves.{null_known, boolean_known, int_known, long_known, float_known}
+use Rattle.avro_schema.proofs.KnownLeaves.{double_known, raw_known, str_known}
 use Rattle.avro_schema.proofs.KnownNamed.{fixed_known, enum_known}
 use Rattle.avro_schema.proofs.KnownArrays.{array_known}
 use Rattle.avro_schema.proofs.KnownMaps.{map_known}

@@ -1,5 +1,6 @@
 -- The members of a schema's text, as JSON has them, and what is found in them once they are read.
-use Rattle.std.proofs.Common.{◌≡◌, ℕ, ◌≤◌, ℤ, Bool, true, false, List, ◌++◌, Option, Some, None, Ok, codes, option_and_then, option_map, refl, ap, arith}
+use Rattle.std.proofs.Common.{◌≡◌, ℕ, ◌≤◌, ℤ, Bool, true, false, List, ◌++◌, Option, Some, None, Ok, codes}
+use Rattle.std.proofs.Common.{option_and_then, option_map, refl, ap, arith}
 use Rattle.std.specs.Fmt.{signed_decimal}
 use Rattle.json.specs.Json as json
 use Rattle.json.specs.Tree.{members_tokens, members_depth, MembersHaveNumbers}

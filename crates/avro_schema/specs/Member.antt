@@ -1,40 +1,10 @@
 -- The members of a JSON object that a schema needs: each by its name, with the refusal of one that has no form.
-use Rattle.std.specs.Prelude.{
-  ℕ,
-  ℤ,
-  nat_lt,
-  Bool,
-  false,
-  List,
-  [],
-  ◌∷◌,
-  Option,
-  Some,
-  None,
-  Result,
-  Ok,
-  Err,
-  if◌then◌else◌,
-}
+use Rattle.std.specs.Prelude.{ℕ, ℤ, nat_lt, Bool, false, List, [], ◌∷◌, Option, Some, None, Result, Ok, Err}
+use Rattle.std.specs.Prelude.{if◌then◌else◌}
 use Rattle.std.specs.Str.{bytes_eq}
 use Rattle.words.specs.Reading.{map_value}
-use Rattle.serde_json.specs.Data.{
-  Num,
-  unsigned,
-  negative,
-  float,
-  Data,
-  null,
-  boolean,
-  number,
-  string,
-  array,
-  object,
-  Items,
-  no_items,
-  item,
-  Members,
-}
+use Rattle.serde_json.specs.Data.{Num, unsigned, negative, float, Data, null, boolean, number, string, array, object}
+use Rattle.serde_json.specs.Data.{Items, no_items, item, Members}
 use Rattle.serde_json.specs.Find.{get_member}
 use Rattle.json_members.specs.Form.{int_of}
 use Rattle.avro_schema.specs.declared.refusal.SchemaRefusal.{SchemaRefusal}

@@ -3,24 +3,8 @@ use Rattle.std.specs.Prelude.{◌≡◌, ℕ, suc, ◌≤◌, ◌==◌, ◌&&◌
 use Rattle.std.specs.List.{list_all, list_any, flat_map}
 use Rattle.std.specs.Str.{bytes_eq}
 use Rattle.schema_tree.specs.declared.schema.Schema.{Schema}
-use Rattle.schema_tree.specs.declared.schema.Schema.TheOpen.{
-  Schema-F,
-  Field-F,
-  Null,
-  Boolean,
-  Int,
-  Long,
-  Float,
-  Double,
-  Raw,
-  Str,
-  Fixed,
-  Enum,
-  Rec,
-  Array,
-  Map,
-  Union,
-}
+use Rattle.schema_tree.specs.declared.schema.Schema.TheOpen.{Schema-F, Field-F, Null, Boolean, Int, Long, Float}
+use Rattle.schema_tree.specs.declared.schema.Schema.TheOpen.{Double, Raw, Str, Fixed, Enum, Rec, Array, Map, Union}
 use Rattle.schema_tree.specs.declared.schema.Schema.TheFolds.{fold-Schema}
 use Rattle.schema_tree.specs.declared.schema.Logical.{Logical}
 use Rattle.schema_tree.specs.declared.schema.Logical.TheVariants.{Plain, Date, TimeMicros, StampMicros, StampMicrosUtc}

@@ -2,38 +2,12 @@
 use Rattle.std.specs.Prelude.{ℕ, ℤ, Bool, true, false, List, [], ◌∷◌, ◌++◌, Option, Some, None, codes}
 use Rattle.std.specs.List.{flat_map}
 use Rattle.std.specs.Fmt.{decimal, signed_decimal}
-use Rattle.json.specs.Token.{
-  Token,
-  begin_object,
-  end_object,
-  begin_array,
-  end_array,
-  key,
-  string,
-  number,
-  boolean,
-  null,
-}
+use Rattle.json.specs.Token.{Token, begin_object, end_object, begin_array, end_array, key, string, number, boolean}
+use Rattle.json.specs.Token.{null}
 use Rattle.json.specs.Print.{print}
 use Rattle.schema_tree.specs.declared.schema.Schema.{Schema}
-use Rattle.schema_tree.specs.declared.schema.Schema.TheOpen.{
-  Schema-F,
-  Field-F,
-  Null,
-  Boolean,
-  Int,
-  Long,
-  Float,
-  Double,
-  Raw,
-  Str,
-  Fixed,
-  Enum,
-  Rec,
-  Array,
-  Map,
-  Union,
-}
+use Rattle.schema_tree.specs.declared.schema.Schema.TheOpen.{Schema-F, Field-F, Null, Boolean, Int, Long, Float}
+use Rattle.schema_tree.specs.declared.schema.Schema.TheOpen.{Double, Raw, Str, Fixed, Enum, Rec, Array, Map, Union}
 use Rattle.schema_tree.specs.declared.schema.Schema.TheFolds.{fold-Schema}
 use Rattle.schema_tree.specs.declared.schema.Logical.{Logical}
 use Rattle.schema_tree.specs.declared.schema.Logical.TheVariants.{Plain, Date, TimeMicros, StampMicros, StampMicrosUtc}

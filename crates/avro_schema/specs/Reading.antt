@@ -1,28 +1,7 @@
 -- Which schema a JSON value is, or the first place from the top that is none.
 -- Avro 1.11, "Schema Declaration", "Names"; Iceberg spec, "Appendix A: Avro" for the ids.
-use Rattle.std.specs.Prelude.{
-  ℕ,
-  zero,
-  suc,
-  ◌+◌,
-  Bool,
-  true,
-  false,
-  ◌||◌,
-  List,
-  [],
-  ◌∷◌,
-  ◌++◌,
-  Option,
-  Some,
-  None,
-  Result,
-  Ok,
-  Err,
-  nat_lt,
-  codes,
-  if◌then◌else◌,
-}
+use Rattle.std.specs.Prelude.{ℕ, zero, suc, ◌+◌, Bool, true, false, ◌||◌, List, [], ◌∷◌, ◌++◌, Option, Some, None}
+use Rattle.std.specs.Prelude.{Result, Ok, Err, nat_lt, codes, if◌then◌else◌}
 use Rattle.std.specs.Fmt.{decimal}
 use Rattle.std.specs.List.{list_any}
 use Rattle.std.specs.Str.{bytes_eq}
@@ -39,18 +18,8 @@ use Rattle.avro_schema.specs.declared.refusal.SchemaRefusal.{SchemaRefusal}
 use Rattle.avro_schema.specs.declared.refusal.SchemaRefusal.TheVariants.{NotJson, Form, Unknown, Nesting}
 use Rattle.avro_schema.specs.Refusal.{under}
 use Rattle.schema_tree.specs.Tree.{depth, size}
-use Rattle.avro_schema.specs.Member.{
-  text_of,
-  values_of,
-  or_form,
-  needed,
-  text_at,
-  list_at,
-  fixed_size_at,
-  id_at,
-  is_text,
-  is_true,
-}
+use Rattle.avro_schema.specs.Member.{text_of, values_of, or_form, needed, text_at, list_at, fixed_size_at, id_at}
+use Rattle.avro_schema.specs.Member.{is_text, is_true}
 use Rattle.avro_schema.specs.Defined.{Seen, known_as, is_taken, full_name, namespace_of, begun, defined, nothing_seen}
 
 -- ---- primitive types

@@ -21,8 +21,8 @@ mod reading;
 mod refusal;
 mod seen;
 
-pub use printing::print_schema;
 pub use law::reading_agrees;
+pub use printing::print_schema;
 pub use reading::read_schema;
 pub use refusal::SchemaRefusal;
 pub use schema_tree::{Branches, Field, Fields, Logical, Name, Names, Schema};

@@ -1,9 +1,9 @@
 //! Files, columns and refusals, as the tables of the tests name them.
 
 use avro_container::{Block, Blocks, Container, Meta, write};
-use datum_reading::DatumRefusal;
 use avro_schema::SchemaRefusal;
 use avro_wire::{Bytes, Text};
+use datum_reading::DatumRefusal;
 use limits::Which;
 use row_file::RowRefusal;
 use row_types::{Column, Columns, Kind};

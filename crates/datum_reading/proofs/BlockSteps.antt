@@ -1,5 +1,6 @@
 -- Reading blocks one after the other, as a loop does.
-use Rattle.std.proofs.Common.{◌≡◌, ℕ, suc, ◌+◌, ◌-◌, ◌<◌, ◌≤◌, Bool, true, false, List, None, Some, Result, Ok, Err, refl, sym, ap, ◌∙◌, arith}
+use Rattle.std.proofs.Common.{◌≡◌, ℕ, suc, ◌+◌, ◌-◌, ◌<◌, ◌≤◌, Bool, true, false, List, None, Some, Result, Ok, Err}
+use Rattle.std.proofs.Common.{refl, sym, ap, ◌∙◌, arith}
 use Rattle.std.specs.Prelude.{ℤ, pos, negsuc, ◌==◌, if◌then◌else◌}
 use Rattle.std.proofs.Common.{eq-eqb}
 use Rattle.std.proofs.lemmas.Bool.{ne_eqb}
@@ -9,7 +10,8 @@ use Rattle.datum_reading.specs.declared.cursor.Cursor.{Cursor}
 use Rattle.datum_reading.specs.declared.block.BlockHead.{BlockHead}
 use Rattle.datum_reading.specs.declared.refusal.DatumRefusal.{DatumRefusal}
 use Rattle.datum_reading.specs.declared.refusal.DatumRefusal.TheVariants.{Short, Size}
-use Rattle.datum_reading.specs.Reading.{Reads, number_from, with_count, items_at, sized_block_at, block_at, blocks_at, is_natural}
+use Rattle.datum_reading.specs.Reading.{Reads, number_from, with_count, items_at, sized_block_at, block_at, blocks_at}
+use Rattle.datum_reading.specs.Reading.{is_natural}
 use Rattle.datum_reading.specs.Block.{sized_head, head_of, head_at, closed_at}
 
 -- what reading items answers

@@ -1,5 +1,6 @@
 -- What a call that reads a value answers, by the relation; and that one spelling ends where another does.
-use Rattle.std.proofs.Common.{◌≡◌, ℕ, ◌+◌, true, List, ◌++◌, length, drop, slice_range, Result, Ok, Err, refl, sym, ap, subst, ◌∙◌, arith}
+use Rattle.std.proofs.Common.{◌≡◌, ℕ, ◌+◌, true, List, ◌++◌, length, drop, slice_range, Result, Ok, Err, refl, sym}
+use Rattle.std.proofs.Common.{ap, subst, ◌∙◌, arith}
 use Rattle.std.specs.Prelude.{IfOk}
 use Rattle.words.specs.Reading.{Gives, map_value}
 use Rattle.schema_tree.specs.declared.schema.Schema.{Schema}

@@ -1,5 +1,7 @@
 -- A block of items agrees with its spelling.
-use Rattle.std.proofs.Common.{◌≡◌, ℕ, zero, suc, ◌+◌, ◌-◌, ◌<◌, ◌≤◌, true, false, List, [], ◌∷◌, ◌++◌, ◌⊎◌, inl, inr, length, nat_lt, Ok, refl, sym, ap, subst, ◌∙◌, arith, ltb-false, le-ltb, ne_eqb, eq-eqb, eqb-true}
+use Rattle.std.proofs.Common.{◌≡◌, ℕ, zero, suc, ◌+◌, ◌-◌, ◌<◌, ◌≤◌, true, false, List, [], ◌∷◌, ◌++◌, ◌⊎◌, inl, inr}
+use Rattle.std.proofs.Common.{length, nat_lt, Ok, refl, sym, ap, subst, ◌∙◌, arith, ltb-false, le-ltb, ne_eqb, eq-eqb}
+use Rattle.std.proofs.Common.{eqb-true}
 use Rattle.std.specs.Prelude.{ℤ, pos, negsuc}
 use Rattle.std.proofs.lemmas.List.{length-append}
 use Rattle.words.specs.Reading.{◌>>=◌}

@@ -1,5 +1,7 @@
 -- Truth values, bytes and texts agree with their spellings.
-use Rattle.std.proofs.Common.{◌≡◌, ℕ, zero, suc, ◌+◌, ◌-◌, ◌≤◌, List, [], ◌∷◌, ◌++◌, length, drop, slice_get, slice_range, Bool, true, false, Option, Some, None, Ok, nat_lt, inl, inr, refl, sym, ap, ap₂, subst, ◌∙◌, ltb-false, le-ltb, eqb-true, arith}
+use Rattle.std.proofs.Common.{◌≡◌, ℕ, zero, suc, ◌+◌, ◌-◌, ◌≤◌, List, [], ◌∷◌, ◌++◌, length, drop, slice_get}
+use Rattle.std.proofs.Common.{slice_range, Bool, true, false, Option, Some, None, Ok, nat_lt, inl, inr, refl, sym, ap}
+use Rattle.std.proofs.Common.{ap₂, subst, ◌∙◌, ltb-false, le-ltb, eqb-true, arith}
 use Rattle.std.specs.Prelude.{ℤ, pos, negsuc, ◌==◌}
 use Rattle.std.specs.Str.{is_utf8, IsUtf8}
 use Rattle.std.proofs.lemmas.List.{length-drop, length-append, drop_more}
@@ -19,7 +21,8 @@ use Rattle.datum_reading.specs.Refusal.{wire_refusal}
 use Rattle.datum_reading.specs.Reading.{moved, flag_of, flag_at, raw_at, sized_at, text_at}
 use Rattle.datum_tree.specs.Spelling.{SpellsFlag, SpellsRaw, SpellsText, flag_byte}
 use Rattle.datum_tree.specs.Value.{items_in, most_items}
-use Rattle.words.specs.Parts.{Stand, Took, behind_is, range_is, enough_are, enough_stand, stand_first, stand_second, took_then, took_as}
+use Rattle.words.specs.Parts.{Stand, Took, behind_is, range_is, enough_are, enough_stand, stand_first, stand_second}
+use Rattle.words.specs.Parts.{took_then, took_as}
 use Rattle.words.specs.Steps.{bind_ok, value_ok, map_ok, test_passed, test_failed, cond_is, ok_is}
 use Rattle.datum_reading.specs.Agreeing.{Passes, ReadTook, Agrees, no_items}
 use Rattle.datum_reading.proofs.SpelledNumber.{number_took, moved_is}

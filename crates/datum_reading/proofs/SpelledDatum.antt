@@ -13,13 +13,16 @@ use Rattle.datum_reading.specs.declared.cursor.Cursor.{Cursor}
 use Rattle.datum_tree.specs.declared.datum.Datum.{Datum}
 use Rattle.datum_tree.specs.declared.datum.Datum.TheVariants as datums
 use Rattle.datum_tree.specs.Value.{items_in}
-use Rattle.datum_reading.specs.Reading.{Reader, number_from, num_at, sized_at, text_at, choice_at, fields_at, all_at, pair_at, layer_at, field_reader, datum_at}
-use Rattle.datum_tree.specs.Spelling.{Spelling, Spells, SpellsField, SpellsNum, SpellsSized, SpellsText, SpellsString, SpellsSymbol, SpellsEach, SpellsFields, SpellsArray, SpellsPair, SpellsMap}
+use Rattle.datum_reading.specs.Reading.{Reader, number_from, num_at, sized_at, text_at, choice_at, fields_at, all_at}
+use Rattle.datum_reading.specs.Reading.{pair_at, layer_at, field_reader, datum_at}
+use Rattle.datum_tree.specs.Spelling.{Spelling, Spells, SpellsField, SpellsNum, SpellsSized, SpellsText, SpellsString}
+use Rattle.datum_tree.specs.Spelling.{SpellsSymbol, SpellsEach, SpellsFields, SpellsArray, SpellsPair, SpellsMap}
 use Rattle.datum_reading.specs.Layers.{field_at, with_readers}
 use Rattle.datum_tree.specs.SpellingLaws.{SpellsLayer, spells_layer, spells_field}
 use Rattle.words.specs.Parts.{stand_nothing}
 use Rattle.datum_tree.specs.Sums.{each, with_each}
-use Rattle.datum_tree.specs.Counts.{in_pair, counts-Null, counts-Num, counts-Raw, counts-Str, counts-Rec, counts-Array, counts-Map}
+use Rattle.datum_tree.specs.Counts.{in_pair, counts-Null, counts-Num, counts-Raw, counts-Str, counts-Rec}
+use Rattle.datum_tree.specs.Counts.{counts-Array, counts-Map}
 use Rattle.words.specs.Steps.{ok_is}
 use Rattle.datum_reading.specs.Agreeing.{ReadTook, Agrees, no_items, cursor_is, agrees_through}
 use Rattle.datum_reading.proofs.SpelledNumber.{SpellsChoice, agrees_number, agrees_choice}

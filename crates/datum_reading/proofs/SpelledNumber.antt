@@ -1,5 +1,6 @@
 -- Numbers, and the places of symbols and branches, agree with their spellings.
-use Rattle.std.proofs.Common.{◌≡◌, ℕ, ◌+◌, ◌<◌, List, length, true, Ok, nat_lt, inl, inr, drop, refl, sym, ap, subst, ltb-true, lt-ltb, arith}
+use Rattle.std.proofs.Common.{◌≡◌, ℕ, ◌+◌, ◌<◌, List, length, true, Ok, nat_lt, inl, inr, drop, refl, sym, ap, subst}
+use Rattle.std.proofs.Common.{ltb-true, lt-ltb, arith}
 use Rattle.std.specs.Prelude.{ℤ, pos, negsuc}
 use Rattle.words.specs.Reading.{map_value, map_refusal}
 use Rattle.avro_wire.specs.Number.{Bounds, int, SpellsNumber}

@@ -1,5 +1,6 @@
 -- The values of fields, of branches and of keys agree with their spelling, where those of the schemas in a schema do.
-use Rattle.std.proofs.Common.{◌≡◌, ℕ, zero, suc, ◌+◌, ◌<◌, ◌≤◌, List, [], ◌∷◌, ◌++◌, length, map, Ok, refl, sym, ap, ap₂, subst, ◌∙◌, append_assoc, append-nil, arith}
+use Rattle.std.proofs.Common.{◌≡◌, ℕ, zero, suc, ◌+◌, ◌<◌, ◌≤◌, List, [], ◌∷◌, ◌++◌, length, map, Ok, refl, sym, ap}
+use Rattle.std.proofs.Common.{ap₂, subst, ◌∙◌, append_assoc, append-nil, arith}
 use Rattle.words.specs.Reading.{◌>>=◌, map_value}
 use Rattle.words.specs.Grammar.{Joined}
 use Rattle.datum_reading.specs.declared.cursor.Cursor.{Cursor}
@@ -12,7 +13,8 @@ use Rattle.words.specs.Parts.{took_then, took_nothing}
 use Rattle.datum_tree.specs.Sums.{each, each_nil, each_cons}
 use Rattle.datum_tree.specs.Counts.{in_pair, counts-Branch}
 use Rattle.words.specs.Steps.{bind_ok, ok_is}
-use Rattle.datum_reading.specs.Agreeing.{Passes, ReadTook, Agrees, between, cursor_is, passes_as, passes_first, passes_second, agrees_as, agrees_through, agrees_then}
+use Rattle.datum_reading.specs.Agreeing.{Passes, ReadTook, Agrees, between, cursor_is, passes_as, passes_first}
+use Rattle.datum_reading.specs.Agreeing.{passes_second, agrees_as, agrees_through, agrees_then}
 use Rattle.datum_reading.proofs.SpelledNumber.{SpellsChoice, agrees_choice}
 use Rattle.datum_reading.proofs.SpelledBytes.{agrees_text}
 use Rattle.datum_reading.proofs.SpelledItems.{ListTook}

@@ -70,7 +70,7 @@ pub passes_as : (input : List ℕ) (at after : Cursor) (bytes others : List ℕ)
     → Passes input at after bytes m → Passes input at after others n
 passes_as input at after bytes others m n same count passes =
     subst (λ (x : List ℕ). Passes input at after x n) same
-        (subst (λ (k : ℕ). Passes input at after bytes k) count passes)
+    (subst (λ (k : ℕ). Passes input at after bytes k) count passes)
 
 -- ---- readers put together
 
@@ -109,8 +109,8 @@ agrees_through reader S T weigh weighs view agrees same into back = record {
       let inner = back y bytes spelled in
       let count : weighs y ≡ weigh inner.0 = ap weighs inner.1 ∙ same inner.0 in
       let read =
-          agrees.complete input at after inner.0 bytes inner.2
-              (passes_as input at after bytes bytes (weighs y) (weigh inner.0) refl count passes) in
+      agrees.complete input at after inner.0 bytes inner.2
+      (passes_as input at after bytes bytes (weighs y) (weigh inner.0) refl count passes) in
       ap (map_value (λ read. (view read.0, read.1))) read ∙ ap (λ z. Ok (z, after)) (sym inner.1);
 }
 
@@ -118,7 +118,7 @@ agrees_through reader S T weigh weighs view agrees same into back = record {
 pub agrees_then : {A B : Type 0} (reader : Reads A) (next : A → Reads B) (S : A → List ℕ → Type 0)
     (T : A → B → List ℕ → Type 0) (weigh : B → ℕ) → Agrees reader S no_items → ((x : A) → Agrees (next x) (T x) weigh)
     → Agrees (λ input at. reader input at >>= λ read. next read.0 input read.1)
-      (λ y bytes. (x : A) × Joined (S x) (T x y) bytes) weigh
+    (λ y bytes. (x : A) × Joined (S x) (T x y) bytes) weigh
 agrees_then reader next S T weigh agrees others = record {
   sound = λ input at read few is.
       let steps = bind_ok (reader input at) (λ read. next read.0 input read.1) read is in
@@ -133,14 +133,14 @@ agrees_then reader next S T weigh agrees others = record {
   complete = λ input at after y bytes spelled passes.
       let parts = spelled.1 in
       let whole =
-          passes_as input at after bytes (parts.front ++ parts.rest) (weigh y) (0 + weigh y) parts.parts (omega arith)
-              passes in
+      passes_as input at after bytes (parts.front ++ parts.rest) (weigh y) (0 + weigh y) parts.parts (omega arith)
+      passes in
       let middle = between at parts.front 0 in
       let first =
-          agrees.complete input at middle spelled.0 parts.front parts.first
-              (passes_first input at after parts.front parts.rest 0 (weigh y) whole) in
+      agrees.complete input at middle spelled.0 parts.front parts.first
+      (passes_first input at after parts.front parts.rest 0 (weigh y) whole) in
       let second =
-          (others spelled.0).complete input middle after y parts.rest parts.second
-              (passes_second input at after parts.front parts.rest 0 (weigh y) whole) in
+      (others spelled.0).complete input middle after y parts.rest parts.second
+      (passes_second input at after parts.front parts.rest 0 (weigh y) whole) in
       ap (λ r. r >>= λ read. next read.0 input read.1) first ∙ second;
 }

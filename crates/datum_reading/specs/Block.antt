@@ -1,7 +1,7 @@
 -- What stands before the items of a block and what has to be true behind them, and blocks put together of these.
 -- Avro 1.11, "Arrays", "Maps".
-use Rattle.std.specs.Prelude.{ℕ, suc, ◌-◌, ◌==◌, ℤ, pos, negsuc, List, Option, Some, None, Result, Ok, Err,
-  if◌then◌else◌}
+use Rattle.std.specs.Prelude.{ℕ, suc, ◌-◌, ◌==◌, ℤ, pos, negsuc, List, Option, Some, None, Result, Ok, Err}
+use Rattle.std.specs.Prelude.{if◌then◌else◌}
 use Rattle.words.specs.Reading.{◌>>=◌, map_value}
 use Rattle.avro_wire.specs.Number.{long}
 use Rattle.datum_reading.specs.declared.cursor.Cursor.{Cursor}
@@ -16,7 +16,7 @@ abbrev pub counted_head : ℕ → ℕ → Cursor → Result BlockHead DatumRefus
 counted_head place count at =
     if count == 0 then Ok (record { count = count; size = None; first = at })
     else map_value (λ (first : Cursor). record { count = count; size = None; first = first })
-      (with_count place count at)
+    (with_count place count at)
 
 -- the head of a block that tells its size too
 unfoldable pub sized_head : ℕ → ℕ → List ℕ → Cursor → Result BlockHead DatumRefusal

@@ -1,6 +1,6 @@
 -- Reading a record's fields one after the other, as a loop does.
-use Rattle.std.proofs.Common.{◌≡◌, ℕ, ◌+◌, ◌<◌, ◌≤◌, List, [], ◌∷◌, ◌++◌, length, get_or, drop, Result, Ok, Err, sym,
-  ap, ◌∙◌}
+use Rattle.std.proofs.Common.{◌≡◌, ℕ, ◌+◌, ◌<◌, ◌≤◌, List, [], ◌∷◌, ◌++◌, length, get_or, drop, Result, Ok, Err, sym}
+use Rattle.std.proofs.Common.{ap, ◌∙◌}
 use Rattle.std.proofs.lemmas.List.{drop_more, drop_all}
 use Rattle.words.specs.Reading.{◌>>=◌}
 use Rattle.schema_tree.specs.declared.schema.Field.{Field}
@@ -23,11 +23,11 @@ behind_field fields i before input read =
 by_field : (fields : List Field) (i : ℕ) (field : Field) (before : List Datum) (input : List ℕ) (at : Cursor)
     → i < length fields → field ≡ get_or fields i field
     → fields_at (readers_of (drop i fields)) before input at
-      ≡ (datum_at field.schema input at >>= behind_field fields i before input)
+    ≡ (datum_at field.schema input at >>= behind_field fields i before input)
 unfolding fields_at
 by_field fields i field before input at lt is =
     let left : drop i fields ≡ field ∷ drop (i + 1) fields =
-        drop_more fields i field lt ∙ ap (λ (f : Field). f ∷ drop (i + 1) fields) (sym is) in
+    drop_more fields i field lt ∙ ap (λ (f : Field). f ∷ drop (i + 1) fields) (sym is) in
     ap (λ (fs : List Field). fields_at (readers_of fs) before input at) left
 
 -- a field is refused
@@ -49,7 +49,7 @@ pub fields_on : (fields : List Field) (i : ℕ) (field : Field) (before more : L
 fields_on fields i field before more input at value after total lt is read grown so_far =
     ap (λ (xs : List Datum). fields_at (readers_of (drop (i + 1) fields)) xs input after) grown
     ∙ sym (by_field fields i field before input at lt is
-        ∙ ap (λ r. r >>= behind_field fields i before input) read)
+    ∙ ap (λ r. r >>= behind_field fields i before input) read)
     ∙ so_far
 
 -- no field is left

@@ -13,8 +13,8 @@ use Rattle.schema_tree.specs.declared.schema.Schema.TheFolds.{fold-Field, map-Sc
 use Rattle.schema_tree.specs.declared.schema.Field.{Field}
 use Rattle.datum_reading.specs.declared.cursor.Cursor.{Cursor}
 use Rattle.datum_tree.specs.declared.datum.Datum.TheVariants as datums
-use Rattle.datum_reading.specs.Reading.{Reader, flag_at, num_at, raw_at, sized_at, text_at, choice_at, fields_at,
-  pair_at, all_at, branch_at, layer_at, field_reader, datum_at}
+use Rattle.datum_reading.specs.Reading.{Reader, flag_at, num_at, raw_at, sized_at, text_at, choice_at, fields_at}
+use Rattle.datum_reading.specs.Reading.{pair_at, all_at, branch_at, layer_at, field_reader, datum_at}
 use Rattle.datum_reading.specs.Readers.{readers_of, branch_readers, union_at}
 
 -- the reader of a field
@@ -83,7 +83,7 @@ pub reads-Rec : (name : List ℕ) (fields : List Field) (input : List ℕ) (at :
 reads-Rec name fields input at =
     reads (schemas.Rec name fields) (kinds.Rec name fields) (schemas.rolls-Rec name fields) input at
     ∙ ap (λ (rs : List Reader). map_value (λ read. (datums.Rec read.0, read.1)) (fields_at rs [] input at))
-      (fields_read fields)
+    (fields_read fields)
 
 pub reads-Array : (items : Schema) (id : Option ℤ) (keyed : Bool) (input : List ℕ) (at : Cursor)
     → datum_at (schemas.Array items id keyed) input at ≡ map_value (λ read. (datums.Array read.0, read.1))
@@ -102,10 +102,23 @@ pub reads-Union : (branches : List Schema) (input : List ℕ) (at : Cursor)
 reads-Union branches input at =
     reads (schemas.Union branches) (kinds.Union branches) (schemas.rolls-Union branches) input at
     ∙ ap (λ (n : ℕ). choice_at n input at >>= λ choice.
-        branch_at (branch_readers branches) choice.0 choice.0 input choice.1)
-      (length-map branches datum_at)
+    branch_at (branch_readers branches) choice.0 choice.0 input choice.1)
+    (length-map branches datum_at)
 
 -- what is read under each kind of schema
-pub ruleset layers =
-    (reads-Null, reads-Boolean, reads-Int, reads-Long, reads-Float, reads-Double, reads-Raw, reads-Str,
-      reads-Fixed, reads-Enum, reads-Rec, reads-Array, reads-Map, reads-Union)
+pub ruleset layers = (
+  reads-Null,
+  reads-Boolean,
+  reads-Int,
+  reads-Long,
+  reads-Float,
+  reads-Double,
+  reads-Raw,
+  reads-Str,
+  reads-Fixed,
+  reads-Enum,
+  reads-Rec,
+  reads-Array,
+  reads-Map,
+  reads-Union,
+)

@@ -19,7 +19,7 @@ branch_readers branches = map datum_at branches
 abbrev pub union_at : List Schema → Reader
 union_at branches input at =
     choice_at (length branches) input at >>= λ choice. branch_at (branch_readers branches) choice.0 choice.0 input
-        choice.1
+    choice.1
 
 -- what is read, without its value
 abbrev pub passed : {A : Type 0} → Result (A × Cursor) DatumRefusal → Result Cursor DatumRefusal

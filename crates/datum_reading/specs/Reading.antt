@@ -1,14 +1,15 @@
 -- Which value the bytes at a place spell under a schema, or the first item that has no spelling.
 -- Avro 1.11, "Binary encoding".
-use Rattle.std.specs.Prelude.{ℕ, zero, suc, ◌+◌, ◌-◌, ◌==◌, ℤ, pos, negsuc, Bool, true, false, List, [], ◌∷◌, ◌++◌,
-  length, Option, Some, None, Result, Ok, Err, nat_lt, slice_get, slice_range, if◌then◌else◌}
+use Rattle.std.specs.Prelude.{ℕ, zero, suc, ◌+◌, ◌-◌, ◌==◌, ℤ, pos, negsuc, Bool, true, false, List, [], ◌∷◌, ◌++◌}
+use Rattle.std.specs.Prelude.{length, Option, Some, None, Result, Ok, Err, nat_lt, slice_get, slice_range}
+use Rattle.std.specs.Prelude.{if◌then◌else◌}
 use Rattle.std.specs.Str.{is_utf8}
 use Rattle.words.specs.Reading.{◌>>=◌, map_refusal, map_value, repeated}
 use Rattle.avro_wire.specs.Number.{long, int, Bounds}
 use Rattle.avro_wire.specs.Reading.{number_at, bytes_at}
 use Rattle.schema_tree.specs.declared.schema.Schema.{Schema}
-use Rattle.schema_tree.specs.declared.schema.Schema.TheOpen.{Schema-F, Field-F, Null, Boolean, Int, Long, Float,
-  Double, Raw, Str, Fixed, Enum, Rec, Array, Map, Union}
+use Rattle.schema_tree.specs.declared.schema.Schema.TheOpen.{Schema-F, Field-F, Null, Boolean, Int, Long, Float}
+use Rattle.schema_tree.specs.declared.schema.Schema.TheOpen.{Double, Raw, Str, Fixed, Enum, Rec, Array, Map, Union}
 use Rattle.schema_tree.specs.declared.schema.Schema.TheFolds.{fold-Schema}
 use Rattle.datum_reading.specs.declared.cursor.Cursor.{Cursor}
 use Rattle.datum_tree.specs.declared.datum.Datum.{Datum}
@@ -54,7 +55,7 @@ raw_at size input at =
 unfoldable pub sized_at : List ℕ → Cursor → Result (List ℕ × Cursor) DatumRefusal
 sized_at input at =
     map_value (λ taken. (slice_range input taken.0 taken.1, moved at taken.1))
-        (map_refusal wire_refusal (bytes_at input at.place))
+    (map_refusal wire_refusal (bytes_at input at.place))
 
 -- text behind its length
 unfoldable pub text_at : List ℕ → Cursor → Result (List ℕ × Cursor) DatumRefusal
@@ -102,7 +103,7 @@ items_at item count before input at = repeated (item_at item input) count (befor
 abbrev pub with_count : ℕ → ℕ → Cursor → Result Cursor DatumRefusal
 with_count place count at =
     if nat_lt most_items (at.items + count) then Err (Items place) else Ok
-        (record { place = at.place; items = at.items + count })
+    (record { place = at.place; items = at.items + count })
 
 -- the number is this natural one
 abbrev pub is_natural : ℤ → ℕ → Bool

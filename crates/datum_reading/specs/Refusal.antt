@@ -3,8 +3,8 @@ use Rattle.std.specs.Prelude.{Bool, true, false}
 use Rattle.avro_wire.specs.declared.refusal.WireRefusal.{WireRefusal}
 use Rattle.avro_wire.specs.declared.refusal.WireRefusal.TheVariants as wire
 use Rattle.datum_reading.specs.declared.refusal.DatumRefusal.{DatumRefusal}
-use Rattle.datum_reading.specs.declared.refusal.DatumRefusal.TheVariants.{Short, TooLong, Flag, Branch, Utf8, Size,
-  Items, Memory}
+use Rattle.datum_reading.specs.declared.refusal.DatumRefusal.TheVariants.{Short, TooLong, Flag, Branch, Utf8, Size}
+use Rattle.datum_reading.specs.declared.refusal.DatumRefusal.TheVariants.{Items, Memory}
 
 -- memory ran out, the one free answer
 abbrev pub is_memory : DatumRefusal → Bool

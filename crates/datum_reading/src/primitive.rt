@@ -8,9 +8,9 @@ ghost use Rattle.datum_reading.specs.Refusal.{is_memory, wire_refusal};
 ghost use Rattle.datum_reading.specs.Reading.{moved, number_from, num_at, flag_at, raw_at, sized_at, text_at, choice_at};
 
 use crate::cursor::Cursor;
-use datum_tree::Datum;
 use crate::refusal::DatumRefusal;
 use avro_wire::{Bytes, Text, WireRefusal, take_bytes, take_int, take_long, text_of};
+use datum_tree::Datum;
 use std::alloc::Global;
 
 /// What a refused number or length is called.

@@ -15,15 +15,15 @@ ghost use Rattle.datum_tree.specs.Spelling.{Spells, IsEncoding};
 
 use crate::block::{check_size, take_head};
 use crate::cursor::Cursor;
-use datum_tree::{Datum, Items, Pairs, encodings_fit};
 use crate::primitive::{
     read_flag, read_int, read_long, read_raw, read_sized, read_string, read_symbol, read_text,
     take_choice,
 };
 use crate::refusal::DatumRefusal;
-use schema_tree::{Branches, Fields, Schema};
 use avro_wire::Text;
+use datum_tree::{Datum, Items, Pairs, encodings_fit};
 use lists::List;
+use schema_tree::{Branches, Fields, Schema};
 use sqlite_items::Boxed;
 use std::alloc::Global;
 

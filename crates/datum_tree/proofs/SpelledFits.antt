@@ -1,6 +1,6 @@
 -- What is spelled fits.
-use Rattle.std.proofs.Common.{◌≡◌, ℕ, zero, suc, ◌-◌, ◌/◌, ◌%◌, ◌^◌, ◌≤◌, pos, Bool, true, List, [], ◌∷◌, length, map,
-  inl, inr, refl, sym, ap, subst, ◌∙◌, arith}
+use Rattle.std.proofs.Common.{◌≡◌, ℕ, zero, suc, ◌-◌, ◌/◌, ◌%◌, ◌^◌, ◌≤◌, pos, Bool, true, List, [], ◌∷◌, length, map}
+use Rattle.std.proofs.Common.{inl, inr, refl, sym, ap, subst, ◌∙◌, arith}
 use Rattle.std.specs.Prelude.{nat_lt}
 use Rattle.std.specs.List.{list_all, flat_map}
 use Rattle.std.proofs.lemmas.Bool.{cases_lt, lt-ltb, le-ltb, eq-eqb}
@@ -10,16 +10,16 @@ use Rattle.avro_wire.specs.Blocks.{SpellsItems, SpellsBlocks, SpellsList}
 use Rattle.schema_tree.specs.declared.schema.Schema.{Schema, roll-Schema}
 use Rattle.schema_tree.specs.declared.schema.Field.{Field, roll-Field}
 use Rattle.schema_tree.specs.declared.schema.Schema.TheOpen as layers
-use Rattle.schema_tree.specs.declared.schema.Schema.TheOpen.{Schema-F, Field-F, Null, Boolean, Int, Long, Float,
-  Double, Raw, Str, Fixed, Enum, Rec, Array, Map, Union}
+use Rattle.schema_tree.specs.declared.schema.Schema.TheOpen.{Schema-F, Field-F, Null, Boolean, Int, Long, Float}
+use Rattle.schema_tree.specs.declared.schema.Schema.TheOpen.{Double, Raw, Str, Fixed, Enum, Rec, Array, Map, Union}
 use Rattle.schema_tree.specs.declared.schema.Schema.TheFolds.{map-Schema, map-Field, fold-roll-Field, ind-Schema}
 use Rattle.datum_tree.specs.declared.datum.Datum.{Datum, out-Datum}
 use Rattle.datum_tree.specs.declared.datum.Datum.TheVariants as datums
-use Rattle.datum_tree.specs.Spelling.{Spelling, spelling_of, SpellsEach, SpellsBranch, SpellsPair, Spells,
-  SpellsField, IsEncoding}
+use Rattle.datum_tree.specs.Spelling.{Spelling, spelling_of, SpellsEach, SpellsBranch, SpellsPair, Spells}
+use Rattle.datum_tree.specs.Spelling.{SpellsField, IsEncoding}
 use Rattle.datum_tree.specs.Value.{items_in, most_items}
-use Rattle.datum_tree.specs.Fits.{Test, is_signed, fits_each, fits_branch, fits_level, fits_of, field_test,
-  fits_schema, field_fits, fits}
+use Rattle.datum_tree.specs.Fits.{Test, is_signed, fits_each, fits_branch, fits_level, fits_of, field_test}
+use Rattle.datum_tree.specs.Fits.{fits_schema, field_fits, fits}
 use Rattle.datum_tree.specs.FitsEquations.{fits_rolled}
 use Rattle.datum_tree.specs.SpellingLaws.{spells_layer, spells_field}
 
@@ -68,7 +68,7 @@ items_fit : {A : Type 0} (SpellsItem : A → List ℕ → Type 0) (test : A → 
 items_fit SpellsItem test passes [] bytes spelled = refl
 items_fit SpellsItem test passes (item ∷ items) bytes spelled =
     rw (passes item spelled.front spelled.first, items_fit SpellsItem test passes items spelled.rest spelled.second)
-        refl
+    refl
 
 -- and so do those of blocks
 blocks_fit : {A : Type 0} (SpellsItem : A → List ℕ → Type 0) (test : A → Bool)
@@ -124,29 +124,29 @@ layer_fits : (layer : Schema-F Good GoodField)
     → WhatFits (roll-Schema (map-Schema Good GoodField Schema Field (λ e. e.0) (λ e. e.0) layer))
 layer_fits Null =
     opened layers.Null
-        (λ datum bytes spelled. ap (fits_level layers.Null) (ap out-Datum spelled.0 ∙ datums.outs-Null))
+    (λ datum bytes spelled. ap (fits_level layers.Null) (ap out-Datum spelled.0 ∙ datums.outs-Null))
 layer_fits Boolean =
     opened layers.Boolean
-        (λ datum bytes spelled. ap (fits_level layers.Boolean) (ap out-Datum spelled.value ∙ datums.outs-Flag spelled.flag))
+    (λ datum bytes spelled. ap (fits_level layers.Boolean) (ap out-Datum spelled.value ∙ datums.outs-Flag spelled.flag))
 layer_fits (Int logical) = opened (layers.Int logical) (λ datum bytes spelled.
     ap (fits_level (layers.Int logical)) (ap out-Datum spelled.value ∙ datums.outs-Num spelled.number) ∙ (ap (is_signed 31) spelled.spelled.value_is ∙ int_signed (groups_value bytes) spelled.spelled.fits))
 layer_fits (Long logical) = opened (layers.Long logical) (λ datum bytes spelled.
     ap (fits_level (layers.Long logical)) (ap out-Datum spelled.value ∙ datums.outs-Num spelled.number) ∙ (ap (is_signed 63) spelled.spelled.value_is ∙ long_signed (groups_value bytes) spelled.spelled.fits))
 layer_fits Float =
     opened layers.Float
-        (λ datum bytes spelled. ap (fits_level layers.Float) (ap out-Datum spelled.value ∙ datums.outs-Raw bytes) ∙ eq-eqb (length bytes) 4 spelled.many)
+    (λ datum bytes spelled. ap (fits_level layers.Float) (ap out-Datum spelled.value ∙ datums.outs-Raw bytes) ∙ eq-eqb (length bytes) 4 spelled.many)
 layer_fits Double =
     opened layers.Double
-        (λ datum bytes spelled. ap (fits_level layers.Double) (ap out-Datum spelled.value ∙ datums.outs-Raw bytes) ∙ eq-eqb (length bytes) 8 spelled.many)
+    (λ datum bytes spelled. ap (fits_level layers.Double) (ap out-Datum spelled.value ∙ datums.outs-Raw bytes) ∙ eq-eqb (length bytes) 8 spelled.many)
 layer_fits Raw =
     opened layers.Raw
-        (λ datum bytes spelled. ap (fits_level layers.Raw) (ap out-Datum spelled.value ∙ datums.outs-Raw spelled.inside))
+    (λ datum bytes spelled. ap (fits_level layers.Raw) (ap out-Datum spelled.value ∙ datums.outs-Raw spelled.inside))
 layer_fits Str =
     opened layers.Str
-        (λ datum bytes spelled. ap (fits_level layers.Str) (ap out-Datum spelled.value ∙ datums.outs-Str spelled.text))
+    (λ datum bytes spelled. ap (fits_level layers.Str) (ap out-Datum spelled.value ∙ datums.outs-Str spelled.text))
 layer_fits (Fixed name size) =
     opened (layers.Fixed name size)
-        (λ datum bytes spelled. ap (fits_level (layers.Fixed name size)) (ap out-Datum spelled.value ∙ datums.outs-Raw bytes) ∙ eq-eqb (length bytes) size spelled.many)
+    (λ datum bytes spelled. ap (fits_level (layers.Fixed name size)) (ap out-Datum spelled.value ∙ datums.outs-Raw bytes) ∙ eq-eqb (length bytes) size spelled.many)
 layer_fits (Enum name symbols) = opened (layers.Enum name symbols) (λ datum bytes spelled.
     ap (fits_level (layers.Enum name symbols)) (ap out-Datum spelled.value ∙ datums.outs-Num (pos spelled.place)) ∙ rw (lt-ltb spelled.place (length symbols) spelled.within, place_low spelled.place bytes spelled.spelled) refl)
 layer_fits (Rec name fields) = opened (layers.Rec name (map (λ e. e.0) fields)) (λ datum bytes spelled.

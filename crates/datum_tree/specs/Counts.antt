@@ -58,5 +58,5 @@ pub counts-Map : (pairs : List (List ℕ × Datum)) → items_in (datums.Map pai
 counts-Map pairs =
     counts (datums.Map pairs) (kinds.Map pairs) (datums.rolls-Map pairs)
     ∙ ap₂ (λ (n m : ℕ). n + m)
-      (length-map pairs (λ (pair : List ℕ × Datum). (pair.0, items_in pair.1)))
-      (ap sum (values_counted pairs) ∙ each_sum in_pair pairs)
+    (length-map pairs (λ (pair : List ℕ × Datum). (pair.0, items_in pair.1)))
+    (ap sum (values_counted pairs) ∙ each_sum in_pair pairs)

@@ -1,11 +1,11 @@
 -- Which values a schema has: those that bytes spell.
-use Rattle.std.specs.Prelude.{ℕ, zero, suc, ◌==◌, ◌^◌, ◌-◌, ℤ, pos, negsuc, int_lt, nat_lt, Bool, true, false, not,
-  ◌&&◌, List, [], ◌∷◌, length}
+use Rattle.std.specs.Prelude.{ℕ, zero, suc, ◌==◌, ◌^◌, ◌-◌, ℤ, pos, negsuc, int_lt, nat_lt, Bool, true, false, not}
+use Rattle.std.specs.Prelude.{◌&&◌, List, [], ◌∷◌, length}
 use Rattle.std.specs.List.{list_all}
 use Rattle.schema_tree.specs.declared.schema.Schema.{Schema}
 use Rattle.schema_tree.specs.declared.schema.Field.{Field}
-use Rattle.schema_tree.specs.declared.schema.Schema.TheOpen.{Schema-F, Field-F, Null, Boolean, Int, Long, Float,
-  Double, Raw, Str, Fixed, Enum, Rec, Array, Map, Union}
+use Rattle.schema_tree.specs.declared.schema.Schema.TheOpen.{Schema-F, Field-F, Null, Boolean, Int, Long, Float}
+use Rattle.schema_tree.specs.declared.schema.Schema.TheOpen.{Double, Raw, Str, Fixed, Enum, Rec, Array, Map, Union}
 use Rattle.schema_tree.specs.declared.schema.Schema.TheFolds.{fold-Schema, fold-Field}
 use Rattle.datum_tree.specs.declared.datum.Datum.{Datum, out-Datum}
 use Rattle.datum_tree.specs.declared.datum.Datum.TheOpen as kinds

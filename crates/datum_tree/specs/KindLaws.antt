@@ -3,8 +3,8 @@ use Rattle.std.proofs.Common.{◌≡◌, ℕ, ℤ, Bool, true, false, List, Opti
 use Rattle.datum_tree.specs.declared.datum.Datum.{Datum, out-Datum, roll-Datum, roll-out-Datum}
 use Rattle.datum_tree.specs.declared.datum.Datum.TheOpen.{Null, Flag, Num, Raw, Str, Branch, Rec, Array, Map}
 use Rattle.datum_tree.specs.declared.datum.Datum.TheVariants as datums
-use Rattle.datum_tree.specs.Kinds.{flag_in, number_in, raw_in, text_in, fields_in, array_in, pairs_in, branch_in,
-  is_null, test_if}
+use Rattle.datum_tree.specs.Kinds.{flag_in, number_in, raw_in, text_in, fields_in, array_in, pairs_in, branch_in}
+use Rattle.datum_tree.specs.Kinds.{is_null, test_if}
 use Rattle.datum_tree.specs.Value.{Level}
 
 -- what holds of each kind holds of every value
@@ -138,8 +138,8 @@ branch_level (Raw y) x seen = cc
 branch_level (Str y) x seen = cc
 branch_level (Branch place inside) x seen =
     let same : (place, inside) ≡ x = cc in subst
-        (λ (b : ℕ × Datum). roll-Datum (Branch place inside) ≡ datums.Branch b.0 b.1) same
-        (datums.rolls-Branch place inside)
+    (λ (b : ℕ × Datum). roll-Datum (Branch place inside) ≡ datums.Branch b.0 b.1) same
+    (datums.rolls-Branch place inside)
 branch_level (Rec y) x seen = cc
 branch_level (Array y) x seen = cc
 branch_level (Map y) x seen = cc

@@ -7,8 +7,8 @@ use Rattle.schema_tree.specs.declared.schema.Schema.TheOpen as kinds
 use Rattle.schema_tree.specs.declared.schema.Schema.TheViews.{roll-Schema}
 use Rattle.schema_tree.specs.declared.schema.Schema.TheFolds.{rec-roll-Schema, rec-roll-Field, map-Schema}
 use Rattle.datum_tree.specs.declared.datum.Datum.{Datum}
-use Rattle.datum_tree.specs.Spelling.{Spelling, Spells, SpellsField, SpellsEach, SpellsBranch, SpellsFields,
-  SpellsUnion, spelling_of, field_spelling_of}
+use Rattle.datum_tree.specs.Spelling.{Spelling, Spells, SpellsField, SpellsEach, SpellsBranch, SpellsFields}
+use Rattle.datum_tree.specs.Spelling.{SpellsUnion, spelling_of, field_spelling_of}
 
 -- values of fields, whatever the fields are taken from
 each_natural : {X Y : Type 0} (view : X → Y) (S : Y → Spelling) (fields : List X) (values : List Datum)
@@ -31,7 +31,7 @@ branch_natural view S (branch ∷ branches) (suc place) datum bytes = branch_nat
 natural : (X X' : Type 0) (v : X → Schema) (v' : X' → Field) (k : Schema → Spelling) (k' : Field → Spelling)
     (x : kinds.Schema-F X X')
     → spelling_of X X' v v' (λ p. k (v p)) (λ p. k' (v' p)) x
-      ≡ spelling_of Schema Field (λ y. y) (λ y. y) k k' (map-Schema X X' Schema Field v v' x)
+    ≡ spelling_of Schema Field (λ y. y) (λ y. y) k k' (map-Schema X X' Schema Field v v' x)
 natural X X' v v' k k' kinds.Null = refl
 natural X X' v v' k k' kinds.Boolean = refl
 natural X X' v v' k k' (kinds.Int logical) = refl
@@ -44,12 +44,12 @@ natural X X' v v' k k' (kinds.Fixed name size) = refl
 natural X X' v v' k k' (kinds.Enum name symbols) = refl
 natural X X' v v' k k' (kinds.Rec name fields) =
     λ i datum bytes. SpellsFields (λ (values : List Datum) (rest : List ℕ). each_natural v' k' fields values rest i)
-        datum bytes
+    datum bytes
 natural X X' v v' k k' (kinds.Array items id keyed) = refl
 natural X X' v v' k k' (kinds.Map values key value) = refl
 natural X X' v v' k k' (kinds.Union branches) =
     λ i datum bytes. SpellsUnion
-        (λ (place : ℕ) (inside : Datum) (rest : List ℕ). branch_natural v k branches place inside rest i) datum bytes
+    (λ (place : ℕ) (inside : Datum) (rest : List ℕ). branch_natural v k branches place inside rest i) datum bytes
 
 -- what spells a layer of a schema
 abbrev pub SpellsLayer : kinds.Schema-F Schema Field → Spelling
@@ -63,4 +63,4 @@ spells_layer layer = rec-roll-Schema Spelling Spelling spelling_of field_spellin
 pub spells_field : (field : Field) → SpellsField field ≡ Spells field.schema
 spells_field field =
     rec-roll-Field Spelling Spelling spelling_of field_spelling_of (λ X X' v v' k k' x. refl)
-        (record { name = field.name; id = field.id; schema = field.schema })
+    (record { name = field.name; id = field.id; schema = field.schema })

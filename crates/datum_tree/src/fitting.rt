@@ -16,8 +16,8 @@ use crate::datum::Datum;
 use crate::kinds::{
     array_of, branch_of, fields_of, flag_of, is_null, number_of, pairs_of, raw_of, text_of,
 };
-use schema_tree::{Field, Schema};
 use avro_wire::Text;
+use schema_tree::{Field, Schema};
 
 /// The most items of arrays and maps that a value may have.
 const MOST_ITEMS: u64 = 16_777_216;

@@ -1,5 +1,7 @@
 -- The steps of the puts: what is put behind what, and how far a record, and which branch.
-use Rattle.std.proofs.Common.{◌≡◌, ℕ, zero, suc, ◌+◌, ◌<◌, ◌≤◌, List, [], ◌∷◌, ◌++◌, length, take, drop, map, get_or, pos, Result, Ok, Err, OnOk, OnErr, refl, sym, ap, subst, ◌∙◌, arith, append_assoc, add-one}
+use Rattle.std.proofs.Common.{◌≡◌, ℕ, zero, suc, ◌+◌, ◌<◌, ◌≤◌, List, [], ◌∷◌, ◌++◌, length, take, drop, map, get_or}
+use Rattle.std.proofs.Common.{pos, Result, Ok, Err, OnOk, OnErr, refl, sym, ap, subst, ◌∙◌, arith, append_assoc}
+use Rattle.std.proofs.Common.{add-one}
 use Rattle.std.proofs.lemmas.List.{take-append-drop, append-nil, length-map, get_or-map}
 use Rattle.std.proofs.Math.Seq.{take-append_seam}
 use Rattle.avro_wire.specs.Writing.{number_text}
@@ -7,7 +9,8 @@ use Rattle.schema_tree.specs.declared.schema.Schema.{Schema}
 use Rattle.schema_tree.specs.declared.schema.Field.{Field}
 use Rattle.schema_tree.specs.declared.schema.Schema.TheFolds.{fold_out-Field}
 use Rattle.datum_tree.specs.declared.datum.Datum.{Datum}
-use Rattle.datum_writing.specs.Canonical.{Encoder, each_text, branch_text, text_of, field_text, canonical, field_canonical}
+use Rattle.datum_writing.specs.Canonical.{Encoder, each_text, branch_text, text_of, field_text, canonical}
+use Rattle.datum_writing.specs.Canonical.{field_canonical}
 use Rattle.datum_writing.specs.Writing.{IsFront}
 
 -- what keeps the bytes in front keeps those that they begin with

@@ -1,5 +1,6 @@
 -- That the bytes which are written spell the value, for each kind of schema.
-use Rattle.std.proofs.Common.{◌≡◌, ℕ, zero, suc, ◌-◌, ◌^◌, ◌<◌, ◌≤◌, ℤ, pos, negsuc, Bool, true, ◌&&◌, ◌==◌, List, [], ◌∷◌, ◌++◌, length, map, get_or, not, inl, inr, Option, refl, sym, ap, subst, ◌∙◌, arith}
+use Rattle.std.proofs.Common.{◌≡◌, ℕ, zero, suc, ◌-◌, ◌^◌, ◌<◌, ◌≤◌, ℤ, pos, negsuc, Bool, true, ◌&&◌, ◌==◌, List, []}
+use Rattle.std.proofs.Common.{◌∷◌, ◌++◌, length, map, get_or, not, inl, inr, Option, refl, sym, ap, subst, ◌∙◌, arith}
 use Rattle.std.specs.Prelude.{IfSome, nat_lt}
 use Rattle.std.specs.List.{All, list_all}
 use Rattle.std.proofs.lemmas.Bool.{cases_lt, lt-ltb, ltb-true, eqb-true}
@@ -18,14 +19,24 @@ use Rattle.schema_tree.specs.declared.schema.Schema.TheVariants as schemas
 use Rattle.schema_tree.specs.declared.schema.Schema.TheFolds.{fold_out-Field}
 use Rattle.datum_tree.specs.declared.datum.Datum.{Datum, out-Datum}
 use Rattle.datum_tree.specs.declared.datum.Datum.TheVariants as datums
-use Rattle.datum_tree.specs.Spelling.{Spelling, spelling_of, SpellsEach, SpellsBranch, SpellsPair, flag_byte, Spells, SpellsField}
+use Rattle.datum_tree.specs.Spelling.{Spelling, spelling_of, SpellsEach, SpellsBranch, SpellsPair, flag_byte, Spells}
+use Rattle.datum_tree.specs.Spelling.{SpellsField}
 use Rattle.datum_writing.specs.Canonical.{each_text, pair_text, branch_text, canonical, field_canonical}
-use Rattle.datum_tree.specs.Fits.{Test, is_signed, is_place, fits_each, fits_branch, fits_of, field_test, fits_schema, field_fits}
-use Rattle.datum_tree.specs.Kinds.{flag_in, number_in, raw_in, text_in, fields_in, array_in, pairs_in, branch_in, text_if}
-use Rattle.datum_writing.specs.Spelled.{IsSpelled, IsSized, IsSizedText, EachIsSpelled, PairIsSpelled, AllAreSpelled, BranchIsSpelled}
-use Rattle.datum_tree.specs.KindLaws.{is_flag, is_number, is_raw, is_text, is_fields, is_array, is_pairs, is_branch, is_null_value, there, both, false_is_not_true}
-use Rattle.datum_tree.specs.FitsEquations.{fits_field, null_fits, boolean_fits, int_fits, long_fits, float_fits, double_fits, bytes_fits, string_fits, fixed_fits, enum_fits, record_fits, array_fits, map_fits, union_fits}
-use Rattle.datum_writing.proofs.WritingEquations.{null_written, boolean_written, int_written, long_written, float_written, double_written, bytes_written, string_written, fixed_written, enum_written, record_written, array_written, map_written, union_written}
+use Rattle.datum_tree.specs.Fits.{Test, is_signed, is_place, fits_each, fits_branch, fits_of, field_test, fits_schema}
+use Rattle.datum_tree.specs.Fits.{field_fits}
+use Rattle.datum_tree.specs.Kinds.{flag_in, number_in, raw_in, text_in, fields_in, array_in, pairs_in, branch_in}
+use Rattle.datum_tree.specs.Kinds.{text_if}
+use Rattle.datum_writing.specs.Spelled.{IsSpelled, IsSized, IsSizedText, EachIsSpelled, PairIsSpelled, AllAreSpelled}
+use Rattle.datum_writing.specs.Spelled.{BranchIsSpelled}
+use Rattle.datum_tree.specs.KindLaws.{is_flag, is_number, is_raw, is_text, is_fields, is_array, is_pairs, is_branch}
+use Rattle.datum_tree.specs.KindLaws.{is_null_value, there, both, false_is_not_true}
+use Rattle.datum_tree.specs.FitsEquations.{fits_field, null_fits, boolean_fits, int_fits, long_fits, float_fits}
+use Rattle.datum_tree.specs.FitsEquations.{double_fits, bytes_fits, string_fits, fixed_fits, enum_fits, record_fits}
+use Rattle.datum_tree.specs.FitsEquations.{array_fits, map_fits, union_fits}
+use Rattle.datum_writing.proofs.WritingEquations.{null_written, boolean_written, int_written, long_written}
+use Rattle.datum_writing.proofs.WritingEquations.{float_written, double_written, bytes_written, string_written}
+use Rattle.datum_writing.proofs.WritingEquations.{fixed_written, enum_written, record_written, array_written}
+use Rattle.datum_writing.proofs.WritingEquations.{map_written, union_written}
 use Rattle.datum_writing.proofs.PutLemmas.{field_written}
 use Rattle.datum_tree.specs.SpellingLaws.{spells_layer, spells_field}
 
@@ -158,9 +169,13 @@ enum_spelled name symbols datum = record {
       let found = there (is_place (length symbols)) (number_in (out-Datum datum)) (sym (enum_fits name symbols datum) ∙ fits) in
       let symbol = symbol_in (length symbols) found.value found.passes in
       let text : canonical (schemas.Enum name symbols) datum ≡ number_text (pos symbol.place) = enum_written name symbols datum ∙ (ap (text_if number_text) found.is ∙ ap number_text symbol.is) in
-      to_spells (layers.Enum name symbols) (schemas.Enum name symbols) (schemas.rolls-Enum name symbols) datum _ (record
-          { place = symbol.place; within = symbol.within; value = is_number datum found.value found.is ∙ ap datums.Num symbol.is; spelled = rw text
-          (place_spelled symbol.place symbol.low) });
+      to_spells (layers.Enum name symbols) (schemas.Enum name symbols) (schemas.rolls-Enum name symbols) datum _ (record {
+        place = symbol.place;
+        within = symbol.within;
+        value = is_number datum found.value found.is ∙ ap datums.Num symbol.is;
+        spelled = rw text
+            (place_spelled symbol.place symbol.low);
+      });
 }
 
 -- ---- schemas that hold others

@@ -1,5 +1,7 @@
 -- How far a loop of the puts has come in what its bytes spell.
-use Rattle.std.proofs.Common.{◌≡◌, ℕ, zero, suc, ◌+◌, ◌<◌, ◌≤◌, ◌^◌, ℤ, Bool, List, [], ◌∷◌, ◌++◌, length, take, get_or, Option, Some, Result, Ok, Err, OnOk, sym, ap, subst, ◌∙◌, append_assoc, arith, add-one}
+use Rattle.std.proofs.Common.{◌≡◌, ℕ, zero, suc, ◌+◌, ◌<◌, ◌≤◌, ◌^◌, ℤ, Bool, List, [], ◌∷◌, ◌++◌, length, take}
+use Rattle.std.proofs.Common.{get_or, Option, Some, Result, Ok, Err, OnOk, sym, ap, subst, ◌∙◌, append_assoc, arith}
+use Rattle.std.proofs.Common.{add-one}
 use Rattle.std.specs.Prelude.{IfSome}
 use Rattle.std.specs.List.{All, flat_map}
 use Rattle.std.specs.Str.{IsUtf8}
@@ -13,7 +15,8 @@ use Rattle.schema_tree.specs.declared.schema.Schema.TheVariants as schemas
 use Rattle.datum_tree.specs.declared.datum.Datum.{Datum, out-Datum}
 use Rattle.datum_writing.specs.Canonical.{pair_text, canonical}
 use Rattle.datum_tree.specs.Kinds.{fields_in, array_in, pairs_in, branch_in}
-use Rattle.datum_writing.specs.Spelled.{IsSpelled, IsSized, EachIsSpelled, PairIsSpelled, AllAreSpelled, BranchIsSpelled}
+use Rattle.datum_writing.specs.Spelled.{IsSpelled, IsSized, EachIsSpelled, PairIsSpelled, AllAreSpelled}
+use Rattle.datum_writing.specs.Spelled.{BranchIsSpelled}
 use Rattle.datum_writing.proofs.SpelledLemmas.{record_spelled, array_spelled, map_spelled, union_spelled}
 
 -- one more field

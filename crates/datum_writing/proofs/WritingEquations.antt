@@ -10,9 +10,11 @@ use Rattle.schema_tree.specs.declared.schema.Schema.TheVariants as schemas
 use Rattle.schema_tree.specs.declared.schema.Schema.TheFolds.{fold-roll-Schema, map-Schema}
 use Rattle.datum_tree.specs.declared.datum.Datum.{Datum, out-Datum}
 use Rattle.datum_tree.specs.Spelling.{flag_byte}
-use Rattle.datum_writing.specs.Canonical.{Encoder, each_text, pair_text, branch_text, level_text, text_of, field_text, canonical}
+use Rattle.datum_writing.specs.Canonical.{Encoder, each_text, pair_text, branch_text, level_text, text_of, field_text}
+use Rattle.datum_writing.specs.Canonical.{canonical}
 use Rattle.datum_writing.specs.Canonical.{field_canonical}
-use Rattle.datum_tree.specs.Kinds.{flag_in, number_in, raw_in, text_in, fields_in, array_in, pairs_in, branch_in, text_if}
+use Rattle.datum_tree.specs.Kinds.{flag_in, number_in, raw_in, text_in, fields_in, array_in, pairs_in, branch_in}
+use Rattle.datum_tree.specs.Kinds.{text_if}
 use Rattle.datum_tree.specs.KindLaws.{by_kind}
 
 -- the bytes under a schema that is made of a layer
@@ -82,32 +84,32 @@ pub record_written : (name : List ℕ) (fields : List Field) (datum : Datum) →
 record_written name fields datum =
     ap (λ (s : Schema). canonical s datum) (sym (schemas.rolls-Rec name fields))
     ∙ (rolled (layers.Rec name fields) datum ∙ by_kind (λ level. level_text (layers.Rec name (map field_canonical fields)) level ≡ text_if
-        (each_text (map field_canonical fields)) (fields_in level)) refl (λ x. refl) (λ x. refl) (λ x. refl) (λ x. refl) (λ x y. refl) (λ x. refl)
-        (λ x. refl) (λ x. refl) (out-Datum datum))
+    (each_text (map field_canonical fields)) (fields_in level)) refl (λ x. refl) (λ x. refl) (λ x. refl) (λ x. refl) (λ x y. refl) (λ x. refl)
+    (λ x. refl) (λ x. refl) (out-Datum datum))
 
 -- an array
 pub array_written : (items : Schema) (element_id : Option ℤ) (keyed : Bool) (datum : Datum) → canonical (schemas.Array items element_id keyed) datum ≡ text_if (list_text (canonical items)) (array_in (out-Datum datum))
 array_written items element_id keyed datum =
     ap (λ (s : Schema). canonical s datum) (sym (schemas.rolls-Array items element_id keyed))
     ∙ (rolled (layers.Array items element_id keyed) datum ∙ by_kind (λ level. level_text (layers.Array (canonical items) element_id keyed) level
-        ≡ text_if (list_text (canonical items)) (array_in level)) refl (λ x. refl) (λ x. refl) (λ x. refl) (λ x. refl) (λ x y. refl) (λ x. refl)
-        (λ x. refl) (λ x. refl) (out-Datum datum))
+    ≡ text_if (list_text (canonical items)) (array_in level)) refl (λ x. refl) (λ x. refl) (λ x. refl) (λ x. refl) (λ x y. refl) (λ x. refl)
+    (λ x. refl) (λ x. refl) (out-Datum datum))
 
 -- a map
 pub map_written : (values : Schema) (key_id : Option ℤ) (value_id : Option ℤ) (datum : Datum) → canonical (schemas.Map values key_id value_id) datum ≡ text_if (list_text (pair_text (canonical values))) (pairs_in (out-Datum datum))
 map_written values key_id value_id datum =
     ap (λ (s : Schema). canonical s datum) (sym (schemas.rolls-Map values key_id value_id))
     ∙ (rolled (layers.Map values key_id value_id) datum ∙ by_kind (λ level. level_text (layers.Map (canonical values) key_id value_id) level
-        ≡ text_if (list_text (pair_text (canonical values))) (pairs_in level)) refl (λ x. refl) (λ x. refl) (λ x. refl) (λ x. refl) (λ x y. refl)
-        (λ x. refl) (λ x. refl) (λ x. refl) (out-Datum datum))
+    ≡ text_if (list_text (pair_text (canonical values))) (pairs_in level)) refl (λ x. refl) (λ x. refl) (λ x. refl) (λ x. refl) (λ x y. refl)
+    (λ x. refl) (λ x. refl) (λ x. refl) (out-Datum datum))
 
 -- a union
 pub union_written : (branches : List Schema) (datum : Datum) → canonical (schemas.Union branches) datum ≡ text_if (λ branch. number_text (pos branch.0) ++ branch_text (map canonical branches) branch.0 branch.1) (branch_in (out-Datum datum))
 union_written branches datum =
     ap (λ (s : Schema). canonical s datum) (sym (schemas.rolls-Union branches))
     ∙ (rolled (layers.Union branches) datum ∙ by_kind (λ level. level_text (layers.Union (map canonical branches)) level ≡ text_if
-        (λ branch. number_text (pos branch.0) ++ branch_text (map canonical branches) branch.0 branch.1) (branch_in level)) refl (λ x. refl)
-        (λ x. refl) (λ x. refl) (λ x. refl) (λ x y. refl) (λ x. refl) (λ x. refl) (λ x. refl) (out-Datum datum))
+    (λ branch. number_text (pos branch.0) ++ branch_text (map canonical branches) branch.0 branch.1) (branch_in level)) refl (λ x. refl)
+    (λ x. refl) (λ x. refl) (λ x. refl) (λ x y. refl) (λ x. refl) (λ x. refl) (λ x. refl) (out-Datum datum))
 
 -- all of them
 pub ruleset written = (null_written, boolean_written, int_written, long_written, float_written, double_written, bytes_written, string_written, fixed_written, enum_written, record_written, array_written, map_written, union_written)

@@ -10,10 +10,11 @@ ghost use Rattle.datum_tree.specs.Fits.{fits};
 ghost use Rattle.datum_writing.specs.Spelled.{IsSpelled, IsSized, IsSizedText, EachIsSpelled, PairIsSpelled, AllAreSpelled, BranchIsSpelled};
 ghost use Rattle.datum_writing.specs.Writing.{IsFront};
 
-use datum_tree::Datum;
-use datum_tree::{array_of, branch_of, fields_of, flag_of, number_of, pairs_of, raw_of, text_of};
-use schema_tree::{Field, Schema};
 use avro_wire::{Text, put_bytes, put_long};
+use datum_tree::{
+    Datum, array_of, branch_of, fields_of, flag_of, number_of, pairs_of, raw_of, text_of,
+};
+use schema_tree::{Field, Schema};
 use std::alloc::AllocError;
 
 /// Puts the value's bytes behind `out`. An `Err` says that memory ran out, and leaves `out` as it

@@ -1,5 +1,6 @@
 -- An entry that is printed is read.
-use Rattle.std.proofs.Common.{◌≡◌, ℕ, ◌+◌, ◌<◌, ◌^◌, ℤ, true, List, [], ◌∷◌, ◌++◌, length, drop, codes, decimal, Option, Some, None, Result, Ok, IfSome, refl, sym, ap, ◌∙◌, arith, append_assoc}
+use Rattle.std.proofs.Common.{◌≡◌, ℕ, ◌+◌, ◌<◌, ◌^◌, ℤ, true, List, [], ◌∷◌, ◌++◌, length, drop, codes, decimal}
+use Rattle.std.proofs.Common.{Option, Some, None, Result, Ok, IfSome, refl, sym, ap, ◌∙◌, arith, append_assoc}
 use Rattle.std.proofs.lemmas.List.{length-append}
 use Rattle.row_types.specs.declared.column.Column.{Column}
 use Rattle.history_types.specs.declared.entry.Entry.{Entry}
@@ -14,7 +15,8 @@ use Rattle.pieces.specs.Number.{unsigned_at, optional_long_at, optional_text}
 use Rattle.words.specs.Parts.{behind_is}
 use Rattle.pieces.specs.WordLaws.{word_again, gap_again, no_space_first}
 use Rattle.pieces.specs.Decimal.{is_long_or_none}
-use Rattle.pieces.specs.NumberLaws.{no_digit_first, unsigned_again, optional_long_again, unsigned_no_space, optional_no_space}
+use Rattle.pieces.specs.NumberLaws.{no_digit_first, unsigned_again, optional_long_again, unsigned_no_space}
+use Rattle.pieces.specs.NumberLaws.{optional_no_space}
 use Rattle.history_log.specs.Runs.{runs_text, runs_at}
 use Rattle.history_log.specs.Request.{request_text}
 use Rattle.history_log.specs.Entry.{spaced, before_gap, entry_text, entry_of}

@@ -1,5 +1,6 @@
 -- What is read of a request fits the columns.
-use Rattle.std.proofs.Common.{◌≡◌, ◌≢◌, ℕ, zero, suc, ◌+◌, ◌-◌, ◌<◌, false, List, [], ◌∷◌, ◌++◌, length, get_or, All, AllPairs, Option, Some, None, Ok, IfOk, inl, inr, sym, ◌∙◌, arith}
+use Rattle.std.proofs.Common.{◌≡◌, ◌≢◌, ℕ, zero, suc, ◌+◌, ◌-◌, ◌<◌, false, List, [], ◌∷◌, ◌++◌, length, get_or, All}
+use Rattle.std.proofs.Common.{AllPairs, Option, Some, None, Ok, IfOk, inl, inr, sym, ◌∙◌, arith}
 use Rattle.std.specs.Str.{bytes_eq}
 use Rattle.std.proofs.lemmas.Bool.{cases_lt, false≢true}
 use Rattle.std.proofs.lemmas.List.{get_or_append_left, get_or_at, length-append}
@@ -22,7 +23,8 @@ use Rattle.words.specs.Holds.{if_any, if_viewed, if_renamed, if_then, if_failed}
 use Rattle.row_pred.specs.Cells.{cells_at}
 use Rattle.row_pred.specs.FitLaws.{cells_fit}
 use Rattle.history_log.specs.Refusal.{of_piece, of_cells}
-use Rattle.history_log.specs.Request.{request_words, or_end, row_at, rows_at, is_repeated, new_path, path_at, paths_at, paths_or_end, request_behind, request_at}
+use Rattle.history_log.specs.Request.{request_words, or_end, row_at, rows_at, is_repeated, new_path, path_at}
+use Rattle.history_log.specs.Request.{paths_at, paths_or_end, request_behind, request_at}
 
 -- ---- rows
 

@@ -1,5 +1,7 @@
 -- What is printed of a request is read as it.
-use Rattle.std.proofs.Common.{◌≡◌, ◌≢◌, ℕ, suc, ◌+◌, ◌<◌, codes, true, false, List, [], ◌∷◌, ◌++◌, length, get_or, drop, All, AllPairs, Some, None, Result, Ok, refl, sym, ap, subst, ◌∙◌, arith, append_assoc, length-append}
+use Rattle.std.proofs.Common.{◌≡◌, ◌≢◌, ℕ, suc, ◌+◌, ◌<◌, codes, true, false, List, [], ◌∷◌, ◌++◌, length, get_or}
+use Rattle.std.proofs.Common.{drop, All, AllPairs, Some, None, Result, Ok, refl, sym, ap, subst, ◌∙◌, arith}
+use Rattle.std.proofs.Common.{append_assoc, length-append}
 use Rattle.std.specs.List.{flat_map}
 use Rattle.std.specs.Str.{bytes_eq}
 use Rattle.std.proofs.lemmas.Bool.{and_parts, false_from_ne_true, eq-eqb, ne_eqb}
@@ -25,8 +27,10 @@ use Rattle.row_pred.specs.Cell.{cell_text}
 use Rattle.row_pred.specs.Cells.{spaced_text, cells_text, cells_from}
 use Rattle.row_pred.specs.CellLaws.{cell_no_space}
 use Rattle.row_pred.specs.CellsLaws.{cells_again}
-use Rattle.history_log.specs.Request.{next_row_text, rows_text, next_path_text, request_text, request_words, or_end, rows_at, is_repeated, path_at, paths_at, request_behind, request_at, request_of}
-use Rattle.history_log.proofs.RequestSteps.{RowsFrom, rows_start, rows_on, rows_done, PathsFrom, paths_start, paths_on, paths_done}
+use Rattle.history_log.specs.Request.{next_row_text, rows_text, next_path_text, request_text, request_words, or_end}
+use Rattle.history_log.specs.Request.{rows_at, is_repeated, path_at, paths_at, request_behind, request_at, request_of}
+use Rattle.history_log.proofs.RequestSteps.{RowsFrom, rows_start, rows_on, rows_done, PathsFrom, paths_start}
+use Rattle.history_log.proofs.RequestSteps.{paths_on, paths_done}
 
 -- ---- the end of the text, and what stands before it
 

@@ -1,5 +1,6 @@
 -- The rows and the paths of requests, one by one.
-use Rattle.std.proofs.Common.{◌≡◌, ℕ, ◌+◌, ◌<◌, ◌≤◌, ◌==◌, Bool, true, false, List, [], ◌∷◌, ◌++◌, length, drop, Option, Some, None, Result, Ok, Err, inl, inr, refl, sym, ap, subst, ◌∙◌, arith}
+use Rattle.std.proofs.Common.{◌≡◌, ℕ, ◌+◌, ◌<◌, ◌≤◌, ◌==◌, Bool, true, false, List, [], ◌∷◌, ◌++◌, length, drop}
+use Rattle.std.proofs.Common.{Option, Some, None, Result, Ok, Err, inl, inr, refl, sym, ap, subst, ◌∙◌, arith}
 use Rattle.std.specs.Bool.{OnFalse}
 use Rattle.std.proofs.lemmas.Bool.{cases_Bool}
 use Rattle.words.specs.Reading.{Gives, map_refusal, map_value}
@@ -19,7 +20,8 @@ use Rattle.row_pred.specs.Refusal.{is_memory as is_memory_of_cells}
 use Rattle.row_pred.specs.Cells.{cells_at}
 use Rattle.history_log.specs.declared.refusal.HistoryRefusal.{HistoryRefusal}
 use Rattle.history_log.specs.Refusal.{is_memory, of_piece, of_cells}
-use Rattle.history_log.specs.Request.{request_words, or_end, row_at, rows_at, path_at, paths_at, request_behind, request_at}
+use Rattle.history_log.specs.Request.{request_words, or_end, row_at, rows_at, path_at, paths_at, request_behind}
+use Rattle.history_log.specs.Request.{request_at}
 
 -- ---- items to the end of the text
 

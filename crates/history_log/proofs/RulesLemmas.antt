@@ -1,5 +1,6 @@
 -- What an entry that breaks no rule has.
-use Rattle.std.proofs.Common.{◌≡◌, ℕ, zero, suc, ◌<◌, ◌==◌, ℤ, pos, ◌+ℤ◌, ◌<ℤ◌, Bool, true, false, List, [], ◌∷◌, ◌++◌, length, get_or, refl, sym, ◌∙◌, arith}
+use Rattle.std.proofs.Common.{◌≡◌, ℕ, zero, suc, ◌<◌, ◌==◌, ℤ, pos, ◌+ℤ◌, ◌<ℤ◌, Bool, true, false, List, [], ◌∷◌}
+use Rattle.std.proofs.Common.{◌++◌, length, get_or, refl, sym, ◌∙◌, arith}
 use Rattle.std.specs.Prelude.{int_lt, not, ◌&&◌, if◌then◌else◌, is_some}
 use Rattle.std.specs.Option.{is_none as is_absent}
 use Rattle.std.specs.Ordering.{int_eq}
@@ -16,7 +17,8 @@ use Rattle.lineage_model.specs.declared.rule.Rule.{Rule}
 use Rattle.lineage_model.specs.declared.rule.Rule.TheVariants as rules
 use Rattle.lineage_model.specs.Ids.{ids_of, is_rising}
 use Rattle.lineage_model.specs.Opening.{is_between}
-use Rattle.lineage_model.specs.Step.{is_upgrade, is_this, are_fresh, ids_given_by, breaks_version, breaks_unnamed, breaks_seq, breaks_next, breaks_named, breaks_given, breaks_fresh, broken_rule}
+use Rattle.lineage_model.specs.Step.{is_upgrade, is_this, are_fresh, ids_given_by, breaks_version, breaks_unnamed}
+use Rattle.lineage_model.specs.Step.{breaks_seq, breaks_next, breaks_named, breaks_given, breaks_fresh, broken_rule}
 use Rattle.history_log.proofs.RisingLemmas.{below_to}
 
 -- where no rule is told, the first one is kept

@@ -1,5 +1,6 @@
 -- Runs in their one spelling: one more at the end.
-use Rattle.std.proofs.Common.{◌≡◌, ℤ, pos, ◌+ℤ◌, ◌≤ℤ◌, true, false, not, Option, Some, None, IfSome, List, [], ◌∷◌, ◌++◌, ap, sym, subst, ◌∙◌, arith, w64, SFits}
+use Rattle.std.proofs.Common.{◌≡◌, ℤ, pos, ◌+ℤ◌, ◌≤ℤ◌, true, false, not, Option, Some, None, IfSome, List, [], ◌∷◌}
+use Rattle.std.proofs.Common.{◌++◌, ap, sym, subst, ◌∙◌, arith, w64, SFits}
 use Rattle.std.specs.Prelude.{int_lt, ◌^◌, ◌-◌, negsuc}
 use Rattle.std.proofs.lemmas.Bool.{and_from, false≢true}
 use Rattle.std.proofs.lemmas.Bool.Decides.{Decides-int_eq}

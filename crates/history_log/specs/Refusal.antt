@@ -5,8 +5,8 @@ use Rattle.pieces.specs.declared.refusal.PieceRefusal.TheVariants as pieces
 use Rattle.row_pred.specs.declared.refusal.PredRefusal.{PredRefusal}
 use Rattle.row_pred.specs.declared.refusal.PredRefusal.TheVariants as cells
 use Rattle.history_log.specs.declared.refusal.HistoryRefusal.{HistoryRefusal}
-use Rattle.history_log.specs.declared.refusal.HistoryRefusal.TheVariants.{Syntax, Name, Misfit, NotNull, Illegal,
-  Memory}
+use Rattle.history_log.specs.declared.refusal.HistoryRefusal.TheVariants.{Syntax, Name, Misfit, NotNull, Illegal}
+use Rattle.history_log.specs.declared.refusal.HistoryRefusal.TheVariants.{Memory}
 
 -- memory ran out, the one free answer
 abbrev pub is_memory : HistoryRefusal → Bool

@@ -1,5 +1,6 @@
 -- Members of a map, as those of the object that it is.
-use Rattle.std.proofs.Common.{◌≡◌, ℕ, List, [], ◌∷◌, Bor, Option, Some, None, Bool, true, false, ◌||◌, cond, if◌then◌else◌, option_map, is_eq, nat_cmp, refl, sym, ap, ◌∙◌}
+use Rattle.std.proofs.Common.{◌≡◌, ℕ, List, [], ◌∷◌, Bor, Option, Some, None, Bool, true, false, ◌||◌, cond}
+use Rattle.std.proofs.Common.{if◌then◌else◌, option_map, is_eq, nat_cmp, refl, sym, ap, ◌∙◌}
 use Rattle.std.proofs.lemmas.Map.Text.{is_eq-slice_cmp}
 use Rattle.std.specs.Cmp.Lexicographic.{slice_cmp}
 use Rattle.std.specs.Option.{option_copied}

@@ -4,25 +4,8 @@ use Rattle.std.specs.Float.{Float, nan}
 use Rattle.std.specs.Coded.{Coded, code_by, coded×, coded_ℕ, coded_ℤ, coded_list}
 use base.Stored.{coded_float}
 use mathlib.Core.Path.{ap, ◌∙◌}
-use Rattle.serde_json.specs.Data.{
-  Num,
-  unsigned,
-  negative,
-  float,
-  Data,
-  null,
-  boolean,
-  number,
-  string,
-  array,
-  object,
-  Items,
-  no_items,
-  item,
-  Members,
-  no_members,
-  member,
-}
+use Rattle.serde_json.specs.Data.{Num, unsigned, negative, float, Data, null, boolean, number, string, array, object}
+use Rattle.serde_json.specs.Data.{Items, no_items, item, Members, no_members, member}
 
 -- a part: its kind, and the text or the number that it has
 abbrev pub Part : Type 0

@@ -1,29 +1,6 @@
 -- Members with fields: what a look-up finds, and what is left without the fields' names.
-use Rattle.std.proofs.Common.{
-  ◌≡◌,
-  ℕ,
-  List,
-  [],
-  ◌∷◌,
-  Option,
-  Some,
-  None,
-  Bool,
-  true,
-  false,
-  ◌&&◌,
-  if◌then◌else◌,
-  Ordering,
-  Less,
-  Equal,
-  Greater,
-  is_eq,
-  nat_cmp,
-  refl,
-  sym,
-  ap,
-  ◌∙◌,
-}
+use Rattle.std.proofs.Common.{◌≡◌, ℕ, List, [], ◌∷◌, Option, Some, None, Bool, true, false, ◌&&◌, if◌then◌else◌}
+use Rattle.std.proofs.Common.{Ordering, Less, Equal, Greater, is_eq, nat_cmp, refl, sym, ap, ◌∙◌}
 use Rattle.std.proofs.lemmas.Map.Text.{is_eq-slice_cmp}
 use Rattle.std.proofs.lemmas.Slice.Eq.{bytes_eq-Decides}
 use Rattle.std.specs.Cmp.Lexicographic.{slice_cmp}
@@ -32,17 +9,8 @@ use Rattle.std.specs.Str.{bytes_eq}
 use Rattle.serde_json.specs.Data.{Data, Members, no_members, member, put}
 use Rattle.serde_json.specs.Find.{get_member}
 use Rattle.serde_json.proofs.Views.{get_member-put, get_member-put_other}
-use Rattle.json_members.specs.Members.{
-  is_among,
-  without,
-  Field,
-  with_field,
-  with_fields,
-  field_or,
-  found_in,
-  is_field_among,
-  are_among,
-}
+use Rattle.json_members.specs.Members.{is_among, without, Field, with_field, with_fields, field_or, found_in}
+use Rattle.json_members.specs.Members.{is_field_among, are_among}
 use Rattle.json_members.specs.MemberLaws.{one_name}
 
 apart : (a b : List ℕ) (o : Ordering) → slice_cmp nat_cmp a b ≡ o → is_eq o ≡ false → a ≡ b → ⊥

@@ -1,21 +1,6 @@
 -- What a value has to be, and the numbers and items of values.
-use Rattle.std.specs.Prelude.{
-  ◌^◌,
-  ◌-◌,
-  ℤ,
-  pos,
-  negsuc,
-  int_lt,
-  Bool,
-  true,
-  Option,
-  Some,
-  None,
-  is_some,
-  option_and_then,
-  unwrap_or,
-  if◌then◌else◌,
-}
+use Rattle.std.specs.Prelude.{◌^◌, ◌-◌, ℤ, pos, negsuc, int_lt, Bool, true, Option, Some, None, is_some}
+use Rattle.std.specs.Prelude.{option_and_then, unwrap_or, if◌then◌else◌}
 use Rattle.serde_json.specs.Data.{Data, Items, no_items}
 use Rattle.serde_json.specs.Find.{as_str, as_bool, as_number, as_array, as_object, as_i64}
 use Rattle.json_members.specs.declared.form.Form.{Form}

@@ -1,25 +1,6 @@
 -- Members that lack some names.
-use Rattle.std.proofs.Common.{
-  ◌≡◌,
-  ℕ,
-  List,
-  None,
-  Bool,
-  true,
-  false,
-  not,
-  ◌&&◌,
-  if◌then◌else◌,
-  Ordering,
-  Less,
-  Equal,
-  Greater,
-  nat_cmp,
-  refl,
-  sym,
-  ap,
-  ◌∙◌,
-}
+use Rattle.std.proofs.Common.{◌≡◌, ℕ, List, None, Bool, true, false, not, ◌&&◌, if◌then◌else◌, Ordering, Less, Equal}
+use Rattle.std.proofs.Common.{Greater, nat_cmp, refl, sym, ap, ◌∙◌}
 use Rattle.std.specs.Cmp.Lexicographic.{slice_cmp}
 use Rattle.std.specs.Ordering.{match_ordering}
 use Rattle.serde_json.specs.Data.{Data, Members, no_members, member, put}

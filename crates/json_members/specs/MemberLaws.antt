@@ -1,29 +1,6 @@
 -- Members without some names: what is left, and what a look-up finds.
-use Rattle.std.proofs.Common.{
-  ◌≡◌,
-  ℕ,
-  List,
-  [],
-  ◌∷◌,
-  Some,
-  None,
-  Bool,
-  true,
-  false,
-  ◌||◌,
-  cond,
-  if◌then◌else◌,
-  Ordering,
-  Less,
-  Equal,
-  Greater,
-  is_eq,
-  nat_cmp,
-  refl,
-  sym,
-  ap,
-  ◌∙◌,
-}
+use Rattle.std.proofs.Common.{◌≡◌, ℕ, List, [], ◌∷◌, Some, None, Bool, true, false, ◌||◌, cond, if◌then◌else◌}
+use Rattle.std.proofs.Common.{Ordering, Less, Equal, Greater, is_eq, nat_cmp, refl, sym, ap, ◌∙◌}
 use Rattle.std.proofs.lemmas.Map.Text.{is_eq-slice_cmp}
 use Rattle.std.proofs.lemmas.Slice.Eq.{bytes_eq-Decides}
 use Rattle.std.specs.Cmp.Lexicographic.{slice_cmp}

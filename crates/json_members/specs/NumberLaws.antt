@@ -1,25 +1,6 @@
 -- Whole numbers as values, and values as whole numbers.
-use Rattle.std.proofs.Common.{
-  ◌≡◌,
-  ℤ,
-  pos,
-  negsuc,
-  int_lt,
-  Bool,
-  true,
-  false,
-  if◌then◌else◌,
-  Option,
-  Some,
-  None,
-  is_some,
-  option_and_then,
-  unwrap_or,
-  refl,
-  sym,
-  ap,
-  ◌∙◌,
-}
+use Rattle.std.proofs.Common.{◌≡◌, ℤ, pos, negsuc, int_lt, Bool, true, false, if◌then◌else◌, Option, Some, None}
+use Rattle.std.proofs.Common.{is_some, option_and_then, unwrap_or, refl, sym, ap, ◌∙◌}
 use Rattle.serde_json.specs.Data.{Data, number}
 use Rattle.serde_json.specs.Find.{as_number, as_i64, of_integer}
 use Rattle.json_members.specs.Form.{is_long, if_long, long_of, if_natural, natural_of, if_int, int_of}

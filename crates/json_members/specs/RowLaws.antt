@@ -1,27 +1,6 @@
 -- The first fault of a table, and the relation that says that there is none.
-use Rattle.std.proofs.Common.{
-  ◌≡◌,
-  ℕ,
-  List,
-  [],
-  ◌∷◌,
-  Option,
-  Some,
-  None,
-  Bool,
-  true,
-  false,
-  ◌||◌,
-  if◌then◌else◌,
-  Result,
-  Ok,
-  Err,
-  refl,
-  ap,
-  ap₂,
-  subst,
-  ◌∙◌,
-}
+use Rattle.std.proofs.Common.{◌≡◌, ℕ, List, [], ◌∷◌, Option, Some, None, Bool, true, false, ◌||◌, if◌then◌else◌}
+use Rattle.std.proofs.Common.{Result, Ok, Err, refl, ap, ap₂, subst, ◌∙◌}
 use Rattle.std.specs.Str.{bytes_eq}
 use Rattle.words.specs.Reading.{◌>>=◌}
 use Rattle.serde_json.specs.Data.{Data, Items, no_items, item, Members}
@@ -34,20 +13,8 @@ use Rattle.json_members.specs.declared.rows.Keep.{Keep}
 use Rattle.json_members.specs.declared.rows.Version.{Version}
 use Rattle.json_members.specs.declared.rows.Need.TheVariants.{Needed}
 use Rattle.json_members.specs.Form.{has_form}
-use Rattle.json_members.specs.Rows.{
-  Row,
-  takes_null,
-  tested,
-  checked_by,
-  checked,
-  row_named,
-  AreRight,
-  object_checked,
-  item_checked,
-  each_checked,
-  HasRight,
-  EachIsRight,
-}
+use Rattle.json_members.specs.Rows.{Row, takes_null, tested, checked_by, checked, row_named, AreRight, object_checked}
+use Rattle.json_members.specs.Rows.{item_checked, each_checked, HasRight, EachIsRight}
 use Rattle.json_members.specs.FieldLaws.{get_fields}
 
 -- the first fault depends only on what look-ups find

@@ -1,8 +1,8 @@
 -- The printed names of the quantities that have a limit.
 use Rattle.std.specs.Prelude.{ℕ, List, codes}
 use Rattle.limits.specs.declared.which.Which.{Which}
-use Rattle.limits.specs.declared.which.Which.TheVariants.{Input, Object, Path, Snapshots, Manifests, Files, FileRows,
-  LiveRows}
+use Rattle.limits.specs.declared.which.Which.TheVariants.{Input, Object, Path, Snapshots, Manifests, Files, FileRows}
+use Rattle.limits.specs.declared.which.Which.TheVariants.{LiveRows}
 
 -- the variant's name
 abbrev pub name_of : Which → List ℕ

@@ -1,5 +1,6 @@
 -- How `rows` may end: by the columns of the file, by its rows, or with a line for each row.
-use Rattle.std.proofs.Common.{◌≡◌, ℕ, Bool, true, false, pos, List, Option, None, Result, Ok, Err, refl, sym, ap, ◌∙◌, option_map}
+use Rattle.std.proofs.Common.{◌≡◌, ℕ, Bool, true, false, pos, List, Option, None, Result, Ok, Err, refl, sym, ap, ◌∙◌}
+use Rattle.std.proofs.Common.{option_map}
 use Rattle.std.specs.Bool.{OnFalse}
 use Rattle.words.specs.Reading.{◌>>=◌, map_refusal}
 use Rattle.words.specs.Laws.{refused_so}

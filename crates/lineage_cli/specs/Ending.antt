@@ -15,8 +15,8 @@ use Rattle.datum_reading.specs.declared.refusal.DatumRefusal.TheVariants as datu
 use Rattle.stored_rows.specs.declared.refusal.RowRefusal.{RowRefusal}
 use Rattle.stored_rows.specs.declared.refusal.RowRefusal.TheVariants as refusals
 use Rattle.lineage_cli.specs.declared.ending.Ending.{Ending}
-use Rattle.lineage_cli.specs.declared.ending.Ending.TheVariants.{Usage, InputFault, InputLimit, Input, Table, Illegal,
-  OutFault, Memory}
+use Rattle.lineage_cli.specs.declared.ending.Ending.TheVariants.{Usage, InputFault, InputLimit, Input, Table, Illegal}
+use Rattle.lineage_cli.specs.declared.ending.Ending.TheVariants.{OutFault, Memory}
 use Rattle.lineage_model.specs.RuleName.{name_of}
 use Rattle.lineage_cli.specs.Class.{RefusalClass, Class, class_status}
 

@@ -1,6 +1,6 @@
 -- What a command answers for the bytes of its input, and why a run ended as it did.
-use Rattle.std.specs.Prelude.{◌≡◌, ◌≤◌, ◌+◌, ℕ, Bool, true, false, ◌⊎◌, List, [], length, Option, Result, Ok, Err,
-  IsErrOf, nat_lt, if◌then◌else◌}
+use Rattle.std.specs.Prelude.{◌≡◌, ◌≤◌, ◌+◌, ℕ, Bool, true, false, ◌⊎◌, List, [], length, Option, Result, Ok, Err}
+use Rattle.std.specs.Prelude.{IsErrOf, nat_lt, if◌then◌else◌}
 use Rattle.std.specs.Io.KnownBytes.{Appends, Keeps, Consumes, IsAtEnd}
 use Rattle.words.specs.Reading.{◌>>=◌, map_refusal, value_or}
 use Rattle.lt_port.specs.Faults.{Rose}

@@ -15,16 +15,16 @@ ghost use Rattle.lineage_cli.specs.Run.{IsTold};
 
 use crate::output::write_all;
 use avro_container::ContainerRefusal;
-use datum_reading::DatumRefusal;
 use avro_schema::SchemaRefusal;
 use avro_wire::{Bytes, Text};
+use datum_reading::DatumRefusal;
 use itoa::Buffer;
 use limits::Which;
 use lineage_model::Rule;
 use lt_port::{PortError, Sink};
 use pieces::put_literal;
-use stored_rows::RowRefusal;
 use std::alloc::Global;
+use stored_rows::RowRefusal;
 
 /// Why a run doesn't answer.
 #[derive(Drop)]

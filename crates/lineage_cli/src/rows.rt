@@ -17,9 +17,9 @@ use crate::ending::Ending;
 use crate::printing::print_rows;
 use lt_port::{PortError, Sink};
 use row_reading::{CheckedRows, check_file, file_columns};
-use stored_rows::RowRefusal;
 use row_types::Columns;
 use std::alloc::Global;
+use stored_rows::RowRefusal;
 
 /// Answers `rows` for the bytes of its input. The file is checked whole before a line is written.
 pub fn answer_rows<W: Sink>(

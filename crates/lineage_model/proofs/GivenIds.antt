@@ -1,5 +1,6 @@
 -- Which rows the ids of a legal entry go to.
-use Rattle.std.proofs.Common.{◌≡◌, ◌≢◌, ℕ, ◌==◌, ℤ, Bool, true, false, not, length, eqb-true, ◌&&◌, List, [], AllPairs, Option, Some, None, ap, ◌∙◌, arith, if◌then◌else◌}
+use Rattle.std.proofs.Common.{◌≡◌, ◌≢◌, ℕ, ◌==◌, ℤ, Bool, true, false, not, length, eqb-true, ◌&&◌, List, []}
+use Rattle.std.proofs.Common.{AllPairs, Option, Some, None, ap, ◌∙◌, arith, if◌then◌else◌}
 use Rattle.std.specs.List.{slice_get}
 use Rattle.std.proofs.lemmas.Bool.{and_parts, not-false}
 use Rattle.row_types.specs.RowMap.{row_at}
@@ -9,7 +10,8 @@ use Rattle.history_types.specs.declared.request.Request.TheVariants.{Append, Com
 use Rattle.history_types.specs.declared.entry.Entry.{Entry}
 use Rattle.history_types.specs.declared.state.State.{State}
 use Rattle.lineage_model.specs.Ids.{ids_of}
-use Rattle.lineage_model.specs.Step.{gives_ids, broken_rule, appended, are_fresh, ids_given_by, applied, committed_to, appended_to, LegalStep}
+use Rattle.lineage_model.specs.Step.{gives_ids, broken_rule, appended, are_fresh, ids_given_by, applied, committed_to}
+use Rattle.lineage_model.specs.Step.{appended_to, LegalStep}
 use Rattle.lineage_model.proofs.Cases.{by_request}
 use Rattle.lineage_model.proofs.Distinct.{distinct_from_rising}
 use Rattle.lineage_model.proofs.GoTo.{adding, GoTo, committed}

@@ -1,5 +1,6 @@
 -- The ids that an entry gives, by the next ids before and behind it.
-use Rattle.std.proofs.Common.{◌≡◌, ◌==◌, ℤ, ◌<ℤ◌, ◌≤ℤ◌, int_lt, true, false, not, List, [], length, All, Option, Some, None, is_some, refl, arith, eqb-true}
+use Rattle.std.proofs.Common.{◌≡◌, ◌==◌, ℤ, ◌<ℤ◌, ◌≤ℤ◌, int_lt, true, false, not, List, [], length, All, Option, Some}
+use Rattle.std.proofs.Common.{None, is_some, refl, arith, eqb-true}
 use Rattle.std.specs.Option.{is_none as is_absent}
 use Rattle.std.specs.Map.{keys_of}
 use Rattle.std.proofs.lemmas.Bool.{and_parts, not-false, not-true}

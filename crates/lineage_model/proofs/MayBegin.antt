@@ -6,7 +6,8 @@ use Rattle.history_types.specs.declared.state.State.{State}
 use Rattle.lineage_model.specs.Opening.{is_empty, is_opening}
 use Rattle.lineage_model.proofs.Cases.{HasNext}
 use Rattle.lineage_model.proofs.FirstIds.{HasFirst, first_from_test, test_from_first, ids_from_test, test_from_ids}
-use Rattle.lineage_model.proofs.LastChanges.{FromZero, IsLast, from_not_below, not_below, lasts_from_test, test_from_lasts, lasts_as_values}
+use Rattle.lineage_model.proofs.LastChanges.{FromZero, IsLast, from_not_below, not_below, lasts_from_test}
+use Rattle.lineage_model.proofs.LastChanges.{test_from_lasts, lasts_as_values}
 use Rattle.lineage_model.proofs.Right.{IsRight, right_opening}
 
 -- a right state that a history may begin with

@@ -1,5 +1,6 @@
 -- What stands at the ids of rows that come to a table.
-use Rattle.std.proofs.Common.{◌≡◌, ◌≢◌, ℕ, zero, suc, ℤ, true, false, List, [], ◌∷◌, All, AllPairs, Some, Ordering, Less, Equal, Greater, int_cmp, refl, sym, ◌∙◌}
+use Rattle.std.proofs.Common.{◌≡◌, ◌≢◌, ℕ, zero, suc, ℤ, true, false, List, [], ◌∷◌, All, AllPairs, Some, Ordering}
+use Rattle.std.proofs.Common.{Less, Equal, Greater, int_cmp, refl, sym, ◌∙◌}
 use Rattle.std.specs.List.{slice_get}
 use Rattle.std.specs.Ordering.{match_ordering}
 use Rattle.std.specs.BTreeMap.{is_at}

@@ -1,5 +1,6 @@
 -- Rows that come to a table at new ids.
-use Rattle.std.proofs.Common.{◌≡◌, ◌≢◌, ℤ, false, cond, List, [], ◌∷◌, All, Option, Some, Ordering, Less, Equal, Greater, int_cmp, int_eq, refl, sym, ap, ◌∙◌}
+use Rattle.std.proofs.Common.{◌≡◌, ◌≢◌, ℤ, false, cond, List, [], ◌∷◌, All, Option, Some, Ordering, Less, Equal}
+use Rattle.std.proofs.Common.{Greater, int_cmp, int_eq, refl, sym, ap, ◌∙◌}
 use Rattle.std.specs.Ordering.{match_ordering}
 use Rattle.std.specs.BTreeMap.{is_at}
 use Rattle.std.specs.Map.{keys_of}

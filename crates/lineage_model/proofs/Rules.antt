@@ -1,5 +1,6 @@
 -- What an entry that breaks no rule keeps.
-use Rattle.std.proofs.Common.{◌≡◌, ℤ, ◌<ℤ◌, ◌≤ℤ◌, int_lt, Bool, true, false, cond, List, All, Option, Some, None, refl, arith}
+use Rattle.std.proofs.Common.{◌≡◌, ℤ, ◌<ℤ◌, ◌≤ℤ◌, int_lt, Bool, true, false, cond, List, All, Option, Some, None}
+use Rattle.std.proofs.Common.{refl, arith}
 use Rattle.std.specs.List.{list_all}
 use Rattle.std.proofs.lemmas.Bool.{and_parts, not-true}
 use Rattle.std.proofs.lemmas.Int.{ints}
@@ -9,7 +10,8 @@ use Rattle.history_types.specs.declared.entry.Entry.{Entry}
 use Rattle.history_types.specs.declared.state.State.{State}
 use Rattle.lineage_model.specs.declared.rule.Rule.{Rule}
 use Rattle.lineage_model.specs.Opening.{is_between}
-use Rattle.lineage_model.specs.Step.{broken_rule, breaks_version, breaks_unnamed, breaks_seq, breaks_next, breaks_named, breaks_given, breaks_fresh}
+use Rattle.lineage_model.specs.Step.{broken_rule, breaks_version, breaks_unnamed, breaks_seq, breaks_next}
+use Rattle.lineage_model.specs.Step.{breaks_named, breaks_given, breaks_fresh}
 
 -- no rule comes first: the test fails, and none of the others holds
 first_kept : (test : Bool) (rule : Rule) (others : Option Rule) → cond test (Some rule) others ≡ None → (test ≡ false) × (others ≡ None)

@@ -6,7 +6,8 @@ use Rattle.history_types.specs.declared.state.State.{State}
 use Rattle.lineage_model.specs.Step.{broken_rule, applied, ids_given_by}
 use Rattle.lineage_model.specs.History.{IsBelow, IsHistory, AreLegal, state_after}
 use Rattle.lineage_model.proofs.Cases.{by_request, by_version}
-use Rattle.lineage_model.proofs.Leads.{LeadTo, none_given, none_there, lead_from_test, has_none, has_some, below_none, rows_below}
+use Rattle.lineage_model.proofs.Leads.{LeadTo, none_given, none_there, lead_from_test, has_none, has_some, below_none}
+use Rattle.lineage_model.proofs.Leads.{rows_below}
 use Rattle.lineage_model.proofs.Right.{IsRight, right_opening}
 use Rattle.lineage_model.proofs.Rules.{Kept, kept}
 

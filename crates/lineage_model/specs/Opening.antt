@@ -1,6 +1,6 @@
 -- Which states a history may begin with.
-use Rattle.std.specs.Prelude.{ℕ, ◌==◌, ℤ, pos, int_lt, Bool, true, false, not, ◌&&◌, ◌||◌, List, [], ◌∷◌, Option,
-  Some, None}
+use Rattle.std.specs.Prelude.{ℕ, ◌==◌, ℤ, pos, int_lt, Bool, true, false, not, ◌&&◌, ◌||◌, List, [], ◌∷◌, Option}
+use Rattle.std.specs.Prelude.{Some, None}
 use Rattle.std.specs.List.{list_all}
 use Rattle.row_types.specs.RowMap.{UnnamedRow, NamedRow}
 use Rattle.history_types.specs.declared.state.State.{State}

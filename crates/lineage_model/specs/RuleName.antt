@@ -1,8 +1,8 @@
 -- The printed names of the rules.
 use Rattle.std.specs.Prelude.{ℕ, List, codes}
 use Rattle.lineage_model.specs.declared.rule.Rule.{Rule}
-use Rattle.lineage_model.specs.declared.rule.Rule.TheVariants.{Start, Version, Unnamed, Seq, Next, Named, Given,
-  Fresh, Asked}
+use Rattle.lineage_model.specs.declared.rule.Rule.TheVariants.{Start, Version, Unnamed, Seq, Next, Named, Given}
+use Rattle.lineage_model.specs.declared.rule.Rule.TheVariants.{Fresh, Asked}
 
 -- the variant's name
 abbrev pub name_of : Rule → List ℕ

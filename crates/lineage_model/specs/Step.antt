@@ -1,6 +1,6 @@
 -- One entry of a history applied to a state: the rules that it keeps, and what comes of it.
-use Rattle.std.specs.Prelude.{◌≡◌, ℕ, ◌==◌, ℤ, pos, ◌+ℤ◌, int_lt, Bool, true, false, not, ◌&&◌, List, [], ◌++◌,
-  length, map, Option, Some, None, if◌then◌else◌, is_some}
+use Rattle.std.specs.Prelude.{◌≡◌, ℕ, ◌==◌, ℤ, pos, ◌+ℤ◌, int_lt, Bool, true, false, not, ◌&&◌, List, [], ◌++◌}
+use Rattle.std.specs.Prelude.{length, map, Option, Some, None, if◌then◌else◌, is_some}
 use Rattle.std.specs.Option.{is_none as is_absent}
 use Rattle.std.specs.List.{list_all}
 use Rattle.std.specs.Ordering.{int_eq}
@@ -124,7 +124,7 @@ appended_to state entry asks = record {
 abbrev pub kept_rows : State → Asked → List NamedRow
 kept_rows state asks =
     with_rows (without_rows state.rows asks.removes)
-        (map (λ row. (row.0, stamped (state.seq +ℤ pos 1) row.1)) asks.changes)
+    (map (λ row. (row.0, stamped (state.seq +ℤ pos 1) row.1)) asks.changes)
 
 -- those, and the rows without id under the named ids, in their order
 abbrev pub named_rows : State → Entry → Asked → List NamedRow

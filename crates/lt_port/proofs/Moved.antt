@@ -1,5 +1,6 @@
 -- What a copy to the front of a room leaves.
-use Rattle.std.proofs.Common.{◌≡◌, ℕ, ◌+◌, ◌-◌, ◌≤◌, ◌<◌, min, List, [], ◌++◌, length, take, drop, sym, ◌∙◌, ap, arith, length-append, length-drop, length-take}
+use Rattle.std.proofs.Common.{◌≡◌, ℕ, ◌+◌, ◌-◌, ◌≤◌, ◌<◌, min, List, [], ◌++◌, length, take, drop, sym, ◌∙◌, ap}
+use Rattle.std.proofs.Common.{arith, length-append, length-drop, length-take}
 use Rattle.std.proofs.lemmas.List.{take_at, take-append-drop, drop_all, drop-drop}
 
 -- the front of the room has what the source lost, and nothing only at the end or with no room

@@ -1,5 +1,6 @@
 -- What is read as a count is at least 1.
-use Rattle.std.proofs.Common.{◌≡◌, ℕ, zero, suc, ◌+◌, ◌-◌, ◌*◌, ◌^◌, ◌≤◌, ◌<◌, ℤ, pos, ◌≤ℤ◌, true, List, [], ◌∷◌, drop, Some, Result, inl, inr, refl, arith}
+use Rattle.std.proofs.Common.{◌≡◌, ℕ, zero, suc, ◌+◌, ◌-◌, ◌*◌, ◌^◌, ◌≤◌, ◌<◌, ℤ, pos, ◌≤ℤ◌, true, List, [], ◌∷◌}
+use Rattle.std.proofs.Common.{drop, Some, Result, inl, inr, refl, arith}
 use Rattle.std.specs.Prelude.{slice_get, nat_lt, IfOk}
 use Rattle.std.proofs.lemmas.Bool.{cases_Bool, and_parts, and_from, lt-ltb, ltb-true, false≢true}
 use Rattle.std.proofs.lemmas.Int.{ints}

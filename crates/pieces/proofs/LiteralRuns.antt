@@ -1,5 +1,6 @@
 -- Runs of bytes that stand for themselves, for the loops that read and print them.
-use Rattle.std.proofs.Common.{◌≡◌, ℕ, ◌+◌, ◌<◌, ◌≤◌, true, false, List, [], ◌∷◌, ◌++◌, length, get_or, take, drop, slice_range, sym, ap, ◌∙◌, arith, append_assoc}
+use Rattle.std.proofs.Common.{◌≡◌, ℕ, ◌+◌, ◌<◌, ◌≤◌, true, false, List, [], ◌∷◌, ◌++◌, length, get_or, take, drop}
+use Rattle.std.proofs.Common.{slice_range, sym, ap, ◌∙◌, arith, append_assoc}
 use Rattle.std.specs.List.{flat_map}
 use Rattle.std.proofs.lemmas.List.{append-nil, take_all}
 use Rattle.pieces.specs.Literal.{rest_at, escape}
@@ -22,7 +23,7 @@ read_begins input start content = ap (λ (l : List ℕ). rest_at false l (drop s
 pub read_goes_on : (input : List ℕ) (start at : ℕ) → start ≤ at → at < length input → is_plain (get_or input at 0) ≡ true → IsReadFrom input start at → IsReadFrom input start (at + 1)
 read_goes_on input start at before lt plain read content =
     read content ∙ (at_plain (content ++ slice_range input start at) input at lt plain ∙ ap (λ (l : List ℕ). rest_at false l (drop (at + 1) input) (at + 1)) (append_assoc content (slice_range input start at) (get_or input at 0 ∷ []) ∙ ap (λ (l : List ℕ). content ++ l)
-        (sym (range_more input start at before lt))))
+    (sym (range_more input start at before lt))))
 
 -- the run, and an escape behind it
 pub read_escape : (text : List ℕ) (at end other : ℕ) (before mid after piece : List ℕ) → IsReadFrom text at end

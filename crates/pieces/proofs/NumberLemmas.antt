@@ -1,5 +1,7 @@
 -- How the readers of numbers go on, digit by digit, and that they stay within the text.
-use Rattle.std.proofs.Common.{inl, inr, ℤ, pos, subst, ◌≡◌, ℕ, zero, suc, ◌+◌, ◌-◌, ◌*◌, ◌≤◌, ◌<◌, ◌^◌, Bool, true, false, cond, List, [], ◌∷◌, length, drop, get_or, Option, Some, None, Result, Ok, Err, IfOk, refl, sym, ap, ◌∙◌, arith}
+use Rattle.std.proofs.Common.{inl, inr, ℤ, pos, subst, ◌≡◌, ℕ, zero, suc, ◌+◌, ◌-◌, ◌*◌, ◌≤◌, ◌<◌, ◌^◌, Bool, true}
+use Rattle.std.proofs.Common.{false, cond, List, [], ◌∷◌, length, drop, get_or, Option, Some, None, Result, Ok, Err}
+use Rattle.std.proofs.Common.{IfOk, refl, sym, ap, ◌∙◌, arith}
 use Rattle.std.specs.Prelude.{slice_get, nat_lt}
 use Rattle.std.proofs.lemmas.Bool.{false≢true, cases_Bool, ltb-false}
 use Rattle.std.proofs.lemmas.List.{at_drop_more, at_drop_all, length-drop}
@@ -8,7 +10,9 @@ use Rattle.pieces.specs.declared.refusal.PieceRefusal.{PieceRefusal}
 use Rattle.pieces.specs.declared.number.Digits.{Digits}
 use Rattle.pieces.specs.declared.number.Digits.TheVariants.{Within, Over}
 use Rattle.pieces.specs.Word.{is_this}
-use Rattle.pieces.specs.Number.{is_digit, digits, digits_from, begins, positive_at, natural_at, negative, value_of, Signed, after_of, signed_as, signed_at, no_more, unsigned_at, count_at, of_64_bits, long_at, or_none, any_number_at}
+use Rattle.pieces.specs.Number.{is_digit, digits, digits_from, begins, positive_at, natural_at, negative, value_of}
+use Rattle.pieces.specs.Number.{Signed, after_of, signed_as, signed_at, no_more, unsigned_at, count_at, of_64_bits}
+use Rattle.pieces.specs.Number.{long_at, or_none, any_number_at}
 use Rattle.pieces.specs.WordLaws.{is_this_within}
 
 -- ---- how many digits there are

@@ -1,5 +1,6 @@
 -- How the readers of words go on, step by step, and that they stay within the text.
-use Rattle.std.proofs.Common.{inl, inr, eqb, ◌≡◌, ℕ, suc, ◌+◌, ◌≤◌, ◌<◌, ◌≢◌, Bool, cond, List, length, map, drop, get_or, max, Result, Ok, Err, IfOk, sym, ap, ◌∙◌, arith}
+use Rattle.std.proofs.Common.{inl, inr, eqb, ◌≡◌, ℕ, suc, ◌+◌, ◌≤◌, ◌<◌, ◌≢◌, Bool, cond, List, length, map, drop}
+use Rattle.std.proofs.Common.{get_or, max, Result, Ok, Err, IfOk, sym, ap, ◌∙◌, arith}
 use Rattle.std.specs.Prelude.{slice_get}
 use Rattle.std.proofs.lemmas.Bool.{cases_Bool, eq-eqb, ne_eqb}
 use Rattle.std.proofs.lemmas.List.{at_drop_more, at_drop_all}

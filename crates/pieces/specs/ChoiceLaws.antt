@@ -1,7 +1,8 @@
 -- Laws of one word out of several: the first one that stands there is read.
 use Rattle.std.specs.Prelude.{slice_get}
-use Rattle.std.proofs.Common.{inl, inr, ◌&&◌, if◌then◌else◌, ◌≡◌, ℕ, zero, suc, ◌+◌, Bool, true, false, eqb, ◌==◌,
-  List, [], ◌∷◌, ◌++◌, length, take, drop, max, Some, Result, Ok, Err, IsErr, refl, sym, ap, ◌∙◌, subst, arith}
+use Rattle.std.proofs.Common.{inl, inr, ◌&&◌, if◌then◌else◌, ◌≡◌, ℕ, zero, suc, ◌+◌, Bool, true, false, eqb, ◌==◌}
+use Rattle.std.proofs.Common.{List, [], ◌∷◌, ◌++◌, length, take, drop, max, Some, Result, Ok, Err, IsErr, refl, sym}
+use Rattle.std.proofs.Common.{ap, ◌∙◌, subst, arith}
 use Rattle.std.proofs.lemmas.Bool.{false≢true, cases_Bool, eqb-true, and_parts}
 use Rattle.words.specs.Reading.{◌>>=◌}
 use Rattle.words.specs.Parts.{behind_is}
@@ -26,19 +27,19 @@ first_from (other ∷ words) index zero word input place after far is refused ta
     let same : other ≡ word = cc in
     let zeroth : index ≡ index + 0 = omega arith in
     ap (λ (r : Result ℕ PieceRefusal). or_else r index (λ further. one_of_from (index + 1) words input place further)
-        far) (ap (λ (w : List ℕ). word_at w input place) same ∙ taken)
+    far) (ap (λ (w : List ℕ). word_at w input place) same ∙ taken)
     ∙ ap (λ (n : ℕ). Ok (n, after)) zeroth
 first_from (other ∷ words) index (suc k) word input place after far is refused taken =
     go (word_at other input place) refused.0
-        (λ further. first_from words (index + 1) k word input place after further is refused.1 taken)
-      where
-      go : (r : Result ℕ PieceRefusal) → IsErr r
-          → ((further : ℕ) → one_of_from (index + 1) words input place further ≡ Ok (index + 1 + k, after))
-          → or_else r index (λ further. one_of_from (index + 1) words input place further) far
-              ≡ Ok (index + suc k, after)
-      go (Ok x) err next = absurd (false≢true err)
-      go (Err refusal) err next = let steps : index + 1 + k ≡ index + suc k =
-          omega arith in next (max far (place_of refusal)) ∙ ap (λ (n : ℕ). Ok (n, after)) steps
+    (λ further. first_from words (index + 1) k word input place after further is refused.1 taken)
+  where
+    go : (r : Result ℕ PieceRefusal) → IsErr r
+        → ((further : ℕ) → one_of_from (index + 1) words input place further ≡ Ok (index + 1 + k, after))
+        → or_else r index (λ further. one_of_from (index + 1) words input place further) far
+        ≡ Ok (index + suc k, after)
+    go (Ok x) err next = absurd (false≢true err)
+    go (Err refusal) err next = let steps : index + 1 + k ≡ index + suc k =
+        omega arith in next (max far (place_of refusal)) ∙ ap (λ (n : ℕ). Ok (n, after)) steps
 
 -- the first of the words that stands there is read
 pub one_of_first : (words : List (List ℕ)) (k : ℕ) (word input : List ℕ) (place after : ℕ)
@@ -72,12 +73,12 @@ differ_refused (byte ∷ word) (first ∷ other) input rest place d e =
           let more : differ word other ≡ true = rw is at d in
           let next : drop (place + 1) input ≡ other ++ rest = behind_is input place (first ∷ []) (other ++ rest) e in
           let there : byte_at byte input place ≡ Ok (place + 1) =
-              byte_again byte input (other ++ rest) place (e ∙ ap (λ (b : ℕ). b ∷ (other ++ rest)) same) in
+          byte_again byte input (other ++ rest) place (e ∙ ap (λ (b : ℕ). b ∷ (other ++ rest)) same) in
           subst (λ (r : Result ℕ PieceRefusal). IsErr (r >>= λ after. word_at word input after)) (sym there)
-              (differ_refused word other input rest (place + 1) more next)
+          (differ_refused word other input rest (place + 1) more next)
       | inr is_not ↦
           let not_there : is_this byte (slice_get input place) ≡ false =
-              ap (is_this byte) (stands_first first input (other ++ rest) place e) ∙ is_not in
+          ap (is_this byte) (stands_first first input (other ++ rest) place e) ∙ is_not in
           let there : byte_at byte input place ≡ Err (Syntax place) = rw not_there refl in
           subst (λ (r : Result ℕ PieceRefusal). IsErr (r >>= λ after. word_at word input after)) (sym there) refl
     ]
@@ -96,4 +97,4 @@ pub one_of_again : (words : List (List ℕ)) (k : ℕ) (word input rest : List �
     → one_of words input place ≡ Ok (k, place + length word)
 one_of_again words k word input rest place is d e =
     one_of_first words k word input place (place + length word) is
-        (all_refused (take k words) word input rest place d e) (word_again word input rest place e)
+    (all_refused (take k words) word input rest place d e) (word_again word input rest place e)

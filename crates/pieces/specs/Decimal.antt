@@ -1,6 +1,6 @@
 -- Texts of digits, and the numbers of 64 bits.
-use Rattle.std.specs.Prelude.{ℕ, ◌^◌, ◌-◌, ℤ, pos, negsuc, Bool, true, not, ◌&&◌, List, [], ◌∷◌, Option, Some, None,
-  int_lt}
+use Rattle.std.specs.Prelude.{ℕ, ◌^◌, ◌-◌, ℤ, pos, negsuc, Bool, true, not, ◌&&◌, List, [], ◌∷◌, Option, Some, None}
+use Rattle.std.specs.Prelude.{int_lt}
 use Rattle.pieces.specs.Number.{is_digit}
 
 -- each byte is a digit

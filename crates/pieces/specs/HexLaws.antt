@@ -1,8 +1,8 @@
 -- Laws of bytes in hexadecimal: printed bytes are read, and what is read is bytes.
 use Rattle.std.specs.Prelude.{IfOk}
 use Rattle.std.specs.List.{list_all}
-use Rattle.std.proofs.Common.{◌≡◌, ℕ, ◌+◌, true, false, nat_lt, List, [], ◌∷◌, ◌++◌, length, drop, None, Result, Ok,
-  Err, refl, arith}
+use Rattle.std.proofs.Common.{◌≡◌, ℕ, ◌+◌, true, false, nat_lt, List, [], ◌∷◌, ◌++◌, length, drop, None, Result, Ok}
+use Rattle.std.proofs.Common.{Err, refl, arith}
 use Rattle.hex.specs.Hex.{encode_lower}
 use Rattle.words.specs.Reading.{◌>>=◌}
 use Rattle.words.specs.Parts.{behind_is}
@@ -19,8 +19,13 @@ pub hex_again : (bytes input rest : List ℕ) (place : ℕ) → list_all (λ b. 
     → hex_at input place ≡ Ok (bytes, place + length (hex_text bytes))
 hex_again bytes input rest place small front stops =
     let size : place + 1 + length (encode_lower bytes) ≡ place + length (hex_text bytes) = omega arith in
-    rw (byte_again 120 input (encode_lower bytes ++ rest) place front, behind_is input place (120 ∷ [])
-        (encode_lower bytes ++ rest) front, pairs_again bytes [] rest (place + 1) small stops, size) refl
+    rw (
+      byte_again 120 input (encode_lower bytes ++ rest) place front,
+      behind_is input place (120 ∷ [])
+          (encode_lower bytes ++ rest) front,
+      pairs_again bytes [] rest (place + 1) small stops,
+      size,
+    ) refl
 
 -- what is read is bytes
 pub hex_fits : (input : List ℕ) (place : ℕ) → IfOk (hex_at input place) (λ read. are_bytes read.0 ≡ true)

@@ -1,6 +1,6 @@
 -- Bytes as an x and two lower-case hexadecimal digits for each.
-use Rattle.std.specs.Prelude.{ℕ, ◌+◌, ◌-◌, ◌*◌, Bool, false, ◌&&◌, List, [], ◌∷◌, ◌++◌, drop, Option, Some,
-  None, is_some, Result, Ok, Err, nat_lt, codes, if◌then◌else◌}
+use Rattle.std.specs.Prelude.{ℕ, ◌+◌, ◌-◌, ◌*◌, Bool, false, ◌&&◌, List, [], ◌∷◌, ◌++◌, drop, Option, Some, None}
+use Rattle.std.specs.Prelude.{is_some, Result, Ok, Err, nat_lt, codes, if◌then◌else◌}
 use Rattle.std.specs.List.{list_all}
 use Rattle.hex.specs.Hex.{encode_lower}
 use Rattle.words.specs.Reading.{◌>>=◌}
@@ -29,14 +29,14 @@ pairs_at None bytes [] place = Ok (bytes, place)
 pairs_at (Some high) bytes [] place = Err (Syntax place)
 pairs_at None bytes (byte ∷ rest) place =
     go (hex_digit byte) (λ high. pairs_at (Some high) bytes rest (place + 1)) bytes place where
-  go : Option ℕ → (ℕ → Result (List ℕ × ℕ) PieceRefusal) → List ℕ → ℕ → Result (List ℕ × ℕ) PieceRefusal
-  go None next read at = Ok (read, at)
-  go (Some digit) next read at = next digit
+      go : Option ℕ → (ℕ → Result (List ℕ × ℕ) PieceRefusal) → List ℕ → ℕ → Result (List ℕ × ℕ) PieceRefusal
+      go None next read at = Ok (read, at)
+      go (Some digit) next read at = next digit
 pairs_at (Some high) bytes (byte ∷ rest) place =
     go (hex_digit byte) (λ low. pairs_at None (bytes ++ (high * 16 + low) ∷ []) rest (place + 1)) place where
-  go : Option ℕ → (ℕ → Result (List ℕ × ℕ) PieceRefusal) → ℕ → Result (List ℕ × ℕ) PieceRefusal
-  go None next at = Err (Syntax at)
-  go (Some digit) next at = next digit
+      go : Option ℕ → (ℕ → Result (List ℕ × ℕ) PieceRefusal) → ℕ → Result (List ℕ × ℕ) PieceRefusal
+      go None next at = Err (Syntax at)
+      go (Some digit) next at = next digit
 
 -- a bytes literal: the bytes that it stands for, and the place after it
 abbrev pub hex_at : List ℕ → ℕ → Result (List ℕ × ℕ) PieceRefusal

@@ -1,6 +1,7 @@
 -- The reader of pairs of digits, at printed bytes.
-use Rattle.std.proofs.Common.{◌≡◌, ℕ, ◌+◌, ◌*◌, ◌/◌, ◌%◌, ◌<◌, ◌==◌, true, false, List, [], ◌∷◌, ◌++◌, length,
-  slice_index, nat_lt, is_some, unwrap_or, Option, Some, None, Ok, refl, ap, arith, append_assoc}
+use Rattle.std.proofs.Common.{◌≡◌, ℕ, ◌+◌, ◌*◌, ◌/◌, ◌%◌, ◌<◌, ◌==◌, true, false, List, [], ◌∷◌, ◌++◌, length}
+use Rattle.std.proofs.Common.{slice_index, nat_lt, is_some, unwrap_or, Option, Some, None, Ok, refl, ap, arith}
+use Rattle.std.proofs.Common.{append_assoc}
 use Rattle.std.specs.List.{list_all}
 use Rattle.std.proofs.lemmas.Bool.{agree_below_at, and_parts, eqb-true, ltb-true}
 use Rattle.std.proofs.lemmas.List.{append-nil}
@@ -44,6 +45,13 @@ pairs_again (byte ∷ bytes) read rest place small stops =
     let high = digit_again (byte / 16) (omega arith) in
     let low = digit_again (byte % 16) (omega arith) in
     let size : place + length (encode_lower (byte ∷ bytes)) ≡ place + 1 + 1 + length (encode_lower bytes) =
-        omega arith in
-    rw (high, low, whole, pairs_again bytes (read ++ byte ∷ []) rest (place + 1 + 1) parts.1 stops, append_assoc read
-        (byte ∷ []) bytes, size) refl
+    omega arith in
+    rw (
+      high,
+      low,
+      whole,
+      pairs_again bytes (read ++ byte ∷ []) rest (place + 1 + 1) parts.1 stops,
+      append_assoc read
+          (byte ∷ []) bytes,
+      size,
+    ) refl

@@ -1,6 +1,6 @@
 -- Texts between quotes.
-use Rattle.std.specs.Prelude.{ℕ, ◌+◌, ◌==◌, Bool, true, false, ◌||◌, List, [], ◌∷◌, ◌++◌, drop, Option, Some, None,
-  Result, Ok, Err, codes, if◌then◌else◌}
+use Rattle.std.specs.Prelude.{ℕ, ◌+◌, ◌==◌, Bool, true, false, ◌||◌, List, [], ◌∷◌, ◌++◌, drop, Option, Some, None}
+use Rattle.std.specs.Prelude.{Result, Ok, Err, codes, if◌then◌else◌}
 use Rattle.std.specs.List.{flat_map}
 use Rattle.words.specs.Reading.{◌>>=◌}
 use Rattle.pieces.specs.declared.refusal.PieceRefusal.{PieceRefusal}
@@ -45,9 +45,9 @@ unfoldable pub rest_at : Bool → List ℕ → List ℕ → ℕ → Result (List
 rest_at behind_backslash text [] place = Err (Syntax place)
 rest_at true text (byte ∷ rest) place =
     go (unescaped byte) (λ other. rest_at false (text ++ other ∷ []) rest (place + 1)) place where
-  go : Option ℕ → (ℕ → Result (List ℕ × ℕ) PieceRefusal) → ℕ → Result (List ℕ × ℕ) PieceRefusal
-  go None next at = Err (Syntax at)
-  go (Some other) next at = next other
+      go : Option ℕ → (ℕ → Result (List ℕ × ℕ) PieceRefusal) → ℕ → Result (List ℕ × ℕ) PieceRefusal
+      go None next at = Err (Syntax at)
+      go (Some other) next at = next other
 rest_at false text (byte ∷ rest) place =
     if byte == 34 then Ok (text, place + 1)
     else (if byte == 92 then rest_at true text rest (place + 1)

@@ -8,7 +8,7 @@ use Rattle.pieces.specs.Literal.{escape, rest_at}
 -- a byte as it is printed is read as the byte
 escape_again : (byte : ℕ) (content rest : List ℕ) (place : ℕ)
     → rest_at false content (escape byte ++ rest) place ≡ rest_at false (content ++ byte ∷ []) rest
-        (place + length (escape byte))
+    (place + length (escape byte))
 unfolding rest_at
 escape_again byte content rest place =
     let two : place + 1 + 1 ≡ place + 2 = omega arith in
@@ -24,11 +24,21 @@ escape_again byte content rest place =
               | inl tab ↦ rw (tab, two) refl
               | inr no_tab ↦
                   let itself : escape byte ≡ byte ∷ [] =
-                      rw (ne_eqb byte 34 no_quote, ne_eqb byte 92 no_backslash, ne_eqb byte 10 no_line,
-                      ne_eqb byte 13 no_return, ne_eqb byte 9 no_tab) refl in
+                  rw (
+                    ne_eqb byte 34 no_quote,
+                    ne_eqb byte 92 no_backslash,
+                    ne_eqb byte 10 no_line,
+                    ne_eqb byte 13 no_return,
+                    ne_eqb byte 9 no_tab,
+                  ) refl in
                   rw itself
-                      (rw (ne_eqb byte 34 no_quote, ne_eqb byte 92 no_backslash, ne_eqb byte 10 no_line,
-                      ne_eqb byte 13 no_return, ne_eqb byte 9 no_tab) refl)
+                  (rw (
+                    ne_eqb byte 34 no_quote,
+                    ne_eqb byte 92 no_backslash,
+                    ne_eqb byte 10 no_line,
+                    ne_eqb byte 13 no_return,
+                    ne_eqb byte 9 no_tab,
+                  ) refl)
             ]
           ]
         ]
@@ -38,12 +48,18 @@ escape_again byte content rest place =
 -- a printed text up to its closing quote is read as the text
 pub rest_again : (text content rest : List ℕ) (place : ℕ)
     → rest_at false content (flat_map escape text ++ 34 ∷ rest) place
-        ≡ Ok (content ++ text, place + length (flat_map escape text) + 1)
+    ≡ Ok (content ++ text, place + length (flat_map escape text) + 1)
 unfolding rest_at
 rest_again [] content rest place = let none : place + 0 ≡ place = omega arith in rw (append-nil content, none) refl
 rest_again (byte ∷ text) content rest place =
     let others = rest_again text (content ++ byte ∷ []) rest (place + length (escape byte)) in
     let size : place + length (escape byte ++ flat_map escape text) ≡ place + length (escape byte) + length
-        (flat_map escape text) = omega (arith, length-append (escape byte) (flat_map escape text)) in
-    rw (append_assoc (escape byte) (flat_map escape text) (34 ∷ rest), escape_again byte content
-        (flat_map escape text ++ 34 ∷ rest) place, others, size, append_assoc content (byte ∷ []) text) refl
+    (flat_map escape text) = omega (arith, length-append (escape byte) (flat_map escape text)) in
+    rw (
+      append_assoc (escape byte) (flat_map escape text) (34 ∷ rest),
+      escape_again byte content
+          (flat_map escape text ++ 34 ∷ rest) place,
+      others,
+      size,
+      append_assoc content (byte ∷ []) text,
+    ) refl

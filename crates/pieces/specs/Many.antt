@@ -16,6 +16,6 @@ many item more zero read place = Ok (read, place)
 many item more (suc fuel) read place =
     item read place >>= λ one. more one.1 >>= λ next.
     go_on (read ++ one.0 ∷ []) one.1 next (λ items start. many item more fuel items start) where
-  go_on : {X E : Type 0} → List X → ℕ → Option ℕ → (List X → ℕ → Result (List X × ℕ) E) → Result (List X × ℕ) E
-  go_on items after None rest = Ok (items, after)
-  go_on items after (Some start) rest = rest items start
+      go_on : {X E : Type 0} → List X → ℕ → Option ℕ → (List X → ℕ → Result (List X × ℕ) E) → Result (List X × ℕ) E
+      go_on items after None rest = Ok (items, after)
+      go_on items after (Some start) rest = rest items start

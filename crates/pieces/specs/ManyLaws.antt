@@ -1,7 +1,7 @@
 -- Laws of items one behind the other: the steps of a loop that reads them, and what holds of all of them.
 use Rattle.std.specs.Prelude.{IfOk}
-use Rattle.std.proofs.Common.{◌≡◌, ℕ, zero, suc, ◌+◌, ◌<◌, ◌≤◌, List, [], ◌∷◌, ◌++◌, Option, Result, Ok, Err, Some,
-  None, refl, sym, subst, ◌∙◌, arith}
+use Rattle.std.proofs.Common.{◌≡◌, ℕ, zero, suc, ◌+◌, ◌<◌, ◌≤◌, List, [], ◌∷◌, ◌++◌, Option, Result, Ok, Err, Some}
+use Rattle.std.proofs.Common.{None, refl, sym, subst, ◌∙◌, arith}
 use Rattle.pieces.specs.Many.{Item, More, many}
 
 -- ---- the steps of a loop
@@ -114,5 +114,5 @@ pub many_some : {X E : Type 0} (item : Item X E) (more : More E) (P : List X →
 many_some item more P size place first step =
     let one_more : suc size ≡ size + 1 = omega arith in
     subst (λ (fuel : ℕ). IfOk (many item more fuel [] place) (λ all. P all.0)) one_more
-        (kept_once item more P size [] place (item [] place) refl (first place)
-        (λ items start kept. many_keep item more P size items start step kept))
+    (kept_once item more P size [] place (item [] place) refl (first place)
+    (λ items start kept. many_keep item more P size items start step kept))

@@ -1,6 +1,6 @@
 -- Numbers in decimal: 0, or digits of which the first is not 0, perhaps with a minus sign before them.
-use Rattle.std.specs.Prelude.{ℕ, zero, suc, ◌+◌, ◌-◌, ◌*◌, ◌^◌, ℤ, pos, negsuc, Bool, true, false, ◌&&◌, List, [],
-  ◌∷◌, drop, slice_get, Option, Some, None, Result, Ok, Err, nat_lt, if◌then◌else◌, codes}
+use Rattle.std.specs.Prelude.{ℕ, zero, suc, ◌+◌, ◌-◌, ◌*◌, ◌^◌, ℤ, pos, negsuc, Bool, true, false, ◌&&◌, List, []}
+use Rattle.std.specs.Prelude.{◌∷◌, drop, slice_get, Option, Some, None, Result, Ok, Err, nat_lt, if◌then◌else◌, codes}
 use Rattle.std.specs.Fmt.{signed_decimal}
 use Rattle.words.specs.Reading.{◌>>=◌, map_value}
 use Rattle.pieces.specs.declared.refusal.PieceRefusal.{PieceRefusal}

@@ -1,8 +1,8 @@
 -- Laws of numbers: a printed number is read where it stands, if no digit follows it.
 use Rattle.std.specs.Prelude.{slice_get}
 use Rattle.std.specs.Fmt.{decimal, signed_decimal}
-use Rattle.std.proofs.Common.{◌≡◌, ◌≢◌, ℕ, suc, ◌+◌, ◌-◌, ◌^◌, ◌<◌, ℤ, pos, negsuc, ◌≤ℤ◌, Bool, true, false, cond,
-  List, [], ◌∷◌, ◌++◌, length, drop, Option, Some, None, Result, Ok, refl, ap, ◌∙◌, arith}
+use Rattle.std.proofs.Common.{◌≡◌, ◌≢◌, ℕ, suc, ◌+◌, ◌-◌, ◌^◌, ◌<◌, ℤ, pos, negsuc, ◌≤ℤ◌, Bool, true, false, cond}
+use Rattle.std.proofs.Common.{List, [], ◌∷◌, ◌++◌, length, drop, Option, Some, None, Result, Ok, refl, ap, ◌∙◌, arith}
 use Rattle.std.proofs.lemmas.Int.{ints}
 use Rattle.std.proofs.lemmas.Fmt.{digits_decimal, decimal_nonempty, first_decimal}
 use Rattle.words.specs.Reading.{◌>>=◌, map_value}
@@ -10,12 +10,13 @@ use Rattle.words.specs.Parts.{behind_is}
 use Rattle.pieces.specs.declared.refusal.PieceRefusal.{PieceRefusal}
 use Rattle.pieces.specs.declared.number.Digits.{Digits}
 use Rattle.pieces.specs.Word.{is_this, spaces}
-use Rattle.pieces.specs.Number.{is_digit, digits, negative, Signed, signed_as, signed_at, no_more, unsigned_at,
-  count_at, of_64_bits, long_at, or_none, any_number_at, is_absent, optional_long_at, optional_text}
+use Rattle.pieces.specs.Number.{is_digit, digits, negative, Signed, signed_as, signed_at, no_more, unsigned_at}
+use Rattle.pieces.specs.Number.{count_at, of_64_bits, long_at, or_none, any_number_at, is_absent, optional_long_at}
+use Rattle.pieces.specs.Number.{optional_text}
 use Rattle.pieces.specs.Decimal.{all_digits, is_long, is_long_or_none}
 use Rattle.pieces.specs.WordLaws.{is_this_again, no_space_first}
-use Rattle.pieces.specs.NumberTexts.{own, no_minus, positive_again, natural_again, above_is, below_is, begins_none,
-  begins_text, absent_again, text_no_space}
+use Rattle.pieces.specs.NumberTexts.{own, no_minus, positive_again, natural_again, above_is, below_is, begins_none}
+use Rattle.pieces.specs.NumberTexts.{begins_text, absent_again, text_no_space}
 
 -- ---- digits
 
@@ -42,20 +43,20 @@ pub signed_again : (number : ℤ) (input rest : List ℕ) (place : ℕ) → is_l
 signed_again (pos n) input rest place fits e none =
     let small = above_is n fits in
     let there : is_this 45 (slice_get input place) ≡ false = no_minus (decimal n) input rest place
-        (decimal_nonempty n (omega arith)) (digits_decimal own n (omega arith)) e in
+    (decimal_nonempty n (omega arith)) (digits_decimal own n (omega arith)) e in
     rw there
-        (ap (map_value (signed_as pos))
-        (natural_again (2 ^ 63 - 1) n input rest place (omega arith) (omega arith) e none))
+    (ap (map_value (signed_as pos))
+    (natural_again (2 ^ 63 - 1) n input rest place (omega arith) (omega arith) e none))
 signed_again (negsuc n) input rest place fits e none =
     let small = below_is n fits in
     let there : is_this 45 (slice_get input place) ≡ true = is_this_again 45 input (decimal (suc n) ++ rest) place e in
     let next : drop (place + 1) input ≡ decimal (suc n) ++ rest =
-        behind_is input place (45 ∷ []) (decimal (suc n) ++ rest) e in
+    behind_is input place (45 ∷ []) (decimal (suc n) ++ rest) e in
     let size : place + 1 + length (decimal (suc n)) ≡ place + suc (length (decimal (suc n))) = omega arith in
     rw there
-        (ap (map_value (signed_as negative))
-        (positive_again (2 ^ 63) (suc n) input rest (place + 1) (omega arith) small (omega arith) next none)
-        ∙ ap (λ (after : ℕ). Ok (Ok (negsuc n, after))) size)
+    (ap (map_value (signed_as negative))
+    (positive_again (2 ^ 63) (suc n) input rest (place + 1) (omega arith) small (omega arith) next none)
+    ∙ ap (λ (after : ℕ). Ok (Ok (negsuc n, after))) size)
 
 -- a printed number without a sign is read
 pub unsigned_again : (number : ℕ) (input rest : List ℕ) (place : ℕ) → number < 2 ^ 64
@@ -63,7 +64,7 @@ pub unsigned_again : (number : ℕ) (input rest : List ℕ) (place : ℕ) → nu
     → unsigned_at input place ≡ Ok (number, place + length (decimal number))
 unsigned_again number input rest place fits e none =
     ap (λ (r : Result Digits PieceRefusal). r >>= no_more)
-        (natural_again (2 ^ 64 - 1) number input rest place (omega arith) fits e none)
+    (natural_again (2 ^ 64 - 1) number input rest place (omega arith) fits e none)
 
 -- the reader of numbers with a sign reads a printed number
 pub long_again : (number : ℤ) (input rest : List ℕ) (place : ℕ) → is_long number ≡ true
@@ -87,7 +88,7 @@ count_again (pos n) input rest place some fits e none =
     let small = above_is n fits in
     let above : 0 < n = omega (arith, ints) in
     ap (λ (r : Result Digits PieceRefusal). map_value (λ read. (pos read.0, read.1)) (r >>= no_more))
-        (positive_again (2 ^ 63 - 1) n input rest place above (omega arith) (omega arith) e none)
+    (positive_again (2 ^ 63 - 1) n input rest place above (omega arith) (omega arith) e none)
 count_again (negsuc n) input rest place some fits e none = absurd (omega (arith, ints))
 
 -- a printed number is not read as an absent one
@@ -96,13 +97,13 @@ pub not_absent : (number : ℤ) (input rest : List ℕ) (place : ℕ) → is_lon
 not_absent (pos n) input rest place fits e =
     let small = above_is n fits in
     rw (no_minus (decimal n) input rest place (decimal_nonempty n (omega arith)) (digits_decimal own n (omega arith)) e)
-        refl
+    refl
 not_absent (negsuc n) input rest place fits e =
     let small = below_is n fits in
     let next : drop (place + 1) input ≡ decimal (suc n) ++ rest =
-        behind_is input place (45 ∷ []) (decimal (suc n) ++ rest) e in
+    behind_is input place (45 ∷ []) (decimal (suc n) ++ rest) e in
     let first = begins_text (decimal (suc n)) input rest (place + 1) (decimal_nonempty (suc n) (omega arith))
-        (first_decimal (suc n) (omega arith) (omega arith)) (digits_decimal own (suc n) (omega arith)) next in
+    (first_decimal (suc n) (omega arith) (omega arith)) (digits_decimal own (suc n) (omega arith)) next in
     rw (is_this_again 45 input (decimal (suc n) ++ rest) place e, first) refl
 
 -- a printed number, or the mark of an absent one, is read
@@ -112,7 +113,7 @@ pub optional_long_again : (number : Option ℤ) (input rest : List ℕ) (place :
 optional_long_again None input rest place fits e none = absent_again input rest place e (begins_none rest none)
 optional_long_again (Some number) input rest place fits e none =
     rw (not_absent number input rest place fits e)
-        (ap (map_value (λ read. (Some read.0, read.1))) (long_again number input rest place fits e none))
+    (ap (map_value (λ read. (Some read.0, read.1))) (long_again number input rest place fits e none))
 
 -- ---- no number begins with a space
 

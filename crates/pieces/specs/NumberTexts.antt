@@ -1,10 +1,11 @@
 -- The readers of numbers, at the digits of a printed number.
 use Rattle.std.specs.Prelude.{slice_get, nat_lt}
 use Rattle.std.specs.Fmt.{decimal}
-use Rattle.std.proofs.Common.{inl, inr, ◌≡◌, ℕ, zero, suc, ◌+◌, ◌-◌, ◌*◌, ◌^◌, ◌≤◌, ◌<◌, ◌≢◌, pos, negsuc, Bool, true,
-  false, not, cond, List, [], ◌∷◌, ◌++◌, length, get_or, drop, None, Ok, refl, sym, ap, ◌∙◌, arith, rules}
-use Rattle.std.proofs.lemmas.Bool.{cases_Bool, le-ltb, lt-ltb, and_parts, and_from, ltb-true, ltb-false, not-true,
-  both_ways, false_from_ne_true}
+use Rattle.std.proofs.Common.{inl, inr, ◌≡◌, ℕ, zero, suc, ◌+◌, ◌-◌, ◌*◌, ◌^◌, ◌≤◌, ◌<◌, ◌≢◌, pos, negsuc, Bool, true}
+use Rattle.std.proofs.Common.{false, not, cond, List, [], ◌∷◌, ◌++◌, length, get_or, drop, None, Ok, refl, sym, ap}
+use Rattle.std.proofs.Common.{◌∙◌, arith, rules}
+use Rattle.std.proofs.lemmas.Bool.{cases_Bool, le-ltb, lt-ltb, and_parts, and_from, ltb-true, ltb-false, not-true}
+use Rattle.std.proofs.lemmas.Bool.{both_ways, false_from_ne_true}
 use Rattle.std.proofs.lemmas.Fmt.{digits_decimal, digits_value-decimal, decimal_digit, decimal_nonempty, first_decimal}
 use Rattle.std.proofs.lemmas.Str.Parse.{IsNumeralModel, numerals_by_fold}
 use Rattle.words.specs.Parts.{behind_is}
@@ -49,13 +50,13 @@ digits_again (byte ∷ ds) most value number rest place all is le none =
     let within : nat_lt most (value * 10 + (byte - 48)) ≡ false = le-ltb _ _ (omega arith) in
     let size : place + 1 + length ds ≡ place + suc (length ds) = omega arith in
     ap (λ (b : Bool).
-        cond b (cond (nat_lt most (value * 10 + (byte - 48))) (Over value place (place + 1 + digits (ds ++ rest)))
-        (digits_from most (value * 10 + (byte - 48)) (ds ++ rest) (place + 1))) (Within value place)) parts.0
+    cond b (cond (nat_lt most (value * 10 + (byte - 48))) (Over value place (place + 1 + digits (ds ++ rest)))
+    (digits_from most (value * 10 + (byte - 48)) (ds ++ rest) (place + 1))) (Within value place)) parts.0
     ∙ (ap
-        (λ (b : Bool). cond b (Over value place (place + 1 + digits (ds ++ rest)))
-        (digits_from most (value * 10 + (byte - 48)) (ds ++ rest) (place + 1))) within
+    (λ (b : Bool). cond b (Over value place (place + 1 + digits (ds ++ rest)))
+    (digits_from most (value * 10 + (byte - 48)) (ds ++ rest) (place + 1))) within
     ∙ (digits_again ds most (value * 10 + (byte - 48)) number rest (place + 1) parts.1 is le none
-        ∙ ap (Within number) size))
+    ∙ ap (Within number) size))
 
 -- these are the library's words for digits and their number
 pub own : IsNumeralModel (λ ds. all_digits ds ≡ true) (value_on 0)
@@ -71,10 +72,10 @@ positive_text (byte ∷ text) most number input rest place some first all is le 
     let parts = and_parts (is_digit byte) (all_digits text) all in
     let digit = and_parts (nat_lt 47 byte) (nat_lt byte 58) parts.0 in
     let there : begins (slice_get input place) ≡ true = ap begins (stands_first byte input (text ++ rest) place e)
-        ∙ and_from _ _ (lt-ltb 48 byte first) digit.1 in
+    ∙ and_from _ _ (lt-ltb 48 byte first) digit.1 in
     let read : digits_from most 0 (drop place input) place ≡ Within number (place + suc (length text)) =
     ap (λ (bytes : List ℕ). digits_from most 0 bytes place) e ∙ digits_again (byte ∷ text) most 0 number rest place all
-        is le none in
+    is le none in
     rw there (ap Ok read)
 
 -- no minus sign stands where a digit does
@@ -101,8 +102,8 @@ pub positive_again : (most number : ℕ) (input rest : List ℕ) (place : ℕ) �
     → positive_at most input place ≡ Ok (Within number (place + length (decimal number)))
 positive_again most number input rest place some le fits e none =
     positive_text (decimal number) most number input rest place (decimal_nonempty number fits)
-        (first_decimal number some fits) (digits_decimal own number fits) (digits_value-decimal own number fits)
-        le e none
+    (first_decimal number some fits) (digits_decimal own number fits) (digits_value-decimal own number fits)
+    le e none
 
 -- a number from 0 that is printed is read up to a most
 pub natural_again : (most number : ℕ) (input rest : List ℕ) (place : ℕ) → number ≤ most → number < 2 ^ 64
@@ -111,12 +112,12 @@ pub natural_again : (most number : ℕ) (input rest : List ℕ) (place : ℕ) �
 natural_again most zero input rest place le fits e none =
     let printed : decimal 0 ≡ 48 ∷ [] = decimal_digit 0 (omega arith) in
     let there : is_this 48 (slice_get input place) ≡ true =
-        is_this_again 48 input rest place (e ∙ ap (λ (text : List ℕ). text ++ rest) printed) in
+    is_this_again 48 input rest place (e ∙ ap (λ (text : List ℕ). text ++ rest) printed) in
     rw there (ap (λ (text : List ℕ). Ok (Within 0 (place + length text))) (sym printed))
 natural_again most (suc number) input rest place le fits e none =
     let some : 0 < suc number = omega arith in
     let there : is_this 48 (slice_get input place) ≡ false = no_zero (decimal (suc number)) input rest place
-        (decimal_nonempty (suc number) fits) (first_decimal (suc number) some fits) e in
+    (decimal_nonempty (suc number) fits) (first_decimal (suc number) some fits) e in
     rw there (positive_again most (suc number) input rest place some le fits e none)
 
 -- the magnitude of one above 0
@@ -165,9 +166,9 @@ pub absent_again : (input rest : List ℕ) (place : ℕ) → drop place input �
 absent_again input rest place e alone =
     let there : is_this 45 (slice_get input place) ≡ true = is_this_again 45 input rest place e in
     let next : begins (slice_get input (place + 1)) ≡ false =
-        ap begins
-        (first_behind input (place + 1) ∙ ap (λ (bytes : List ℕ). slice_get bytes 0)
-        (behind_is input place (45 ∷ []) rest e)) ∙ alone in
+    ap begins
+    (first_behind input (place + 1) ∙ ap (λ (bytes : List ℕ). slice_get bytes 0)
+    (behind_is input place (45 ∷ []) rest e)) ∙ alone in
     rw (there, next) refl
 
 -- no text of digits does

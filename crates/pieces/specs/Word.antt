@@ -1,7 +1,7 @@
 -- Single bytes, words, spaces and the end, each as a reader from a place: the place after it, or the place of
 -- the first byte that is not part of it.
-use Rattle.std.specs.Prelude.{ℕ, suc, ◌+◌, ◌==◌, Bool, false, List, [], ◌∷◌, length, drop, slice_get, Option, Some,
-  None, Result, Ok, Err, if◌then◌else◌, max}
+use Rattle.std.specs.Prelude.{ℕ, suc, ◌+◌, ◌==◌, Bool, false, List, [], ◌∷◌, length, drop, slice_get, Option, Some}
+use Rattle.std.specs.Prelude.{None, Result, Ok, Err, if◌then◌else◌, max}
 use Rattle.words.specs.Reading.{◌>>=◌}
 use Rattle.pieces.specs.declared.refusal.PieceRefusal.{PieceRefusal}
 use Rattle.pieces.specs.declared.refusal.PieceRefusal.TheVariants.{Syntax}

@@ -1,7 +1,8 @@
 -- Laws of bytes, words, gaps, marks and the end: what stands at a place is read there, whatever follows it.
 use Rattle.std.specs.Prelude.{slice_get, slice_range}
-use Rattle.std.proofs.Common.{inl, inr, ◌≡◌, ℕ, zero, suc, ◌+◌, ◌-◌, ◌<◌, ◌≤◌, ◌≢◌, ◌==◌, Bool, true, false, cond,
-  List, [], ◌∷◌, ◌++◌, length, get_or, take, drop, Some, Result, Ok, Err, refl, ap, ◌∙◌, arith}
+use Rattle.std.proofs.Common.{inl, inr, ◌≡◌, ℕ, zero, suc, ◌+◌, ◌-◌, ◌<◌, ◌≤◌, ◌≢◌, ◌==◌, Bool, true, false, cond}
+use Rattle.std.proofs.Common.{List, [], ◌∷◌, ◌++◌, length, get_or, take, drop, Some, Result, Ok, Err, refl, ap, ◌∙◌}
+use Rattle.std.proofs.Common.{arith}
 use Rattle.std.proofs.lemmas.Bool.{false≢true, cases_lt, cases_Bool, eq-eqb, eqb-true, ne_eqb}
 use Rattle.std.proofs.lemmas.List.{take_more, get_or-drop, length-drop}
 use Rattle.std.proofs.lemmas.Option.{slice_get-get_or, slice_get_past}
@@ -32,9 +33,9 @@ range_more input start at before lt =
     let more : at + 1 - start ≡ at - start + 1 = omega arith in
     let here : start + (at - start) ≡ at = omega arith in
     ap (λ (n : ℕ). take n (drop start input)) more
-        ∙ (take_more (drop start input) (at - start) 0 (omega (arith, length-drop start input))
-        ∙ ap (λ (b : ℕ). slice_range input start at ++ b ∷ [])
-        (get_or-drop start input (at - start) 0 ∙ ap (λ (n : ℕ). get_or input n 0) here))
+    ∙ (take_more (drop start input) (at - start) 0 (omega (arith, length-drop start input))
+    ∙ ap (λ (b : ℕ). slice_range input start at ++ b ∷ [])
+    (get_or-drop start input (at - start) 0 ∙ ap (λ (n : ℕ). get_or input n 0) here))
 
 -- the test for a byte succeeds where the byte stands
 pub is_this_again : (byte : ℕ) (input rest : List ℕ) (place : ℕ) → drop place input ≡ byte ∷ rest
@@ -66,7 +67,7 @@ byte_stands byte input place after taken =
             (lt, eqb-true (get_or input place 0) byte same, cc)
         | inr other ↦
             let refused : byte_at byte input place ≡ Err (Syntax place) =
-                rw (slice_get-get_or input place 0 lt, other) refl in
+            rw (slice_get-get_or input place 0 lt, other) refl in
             cc
       ]
     ]
@@ -87,7 +88,7 @@ word_again (byte ∷ word) input rest place e =
     let next : drop (place + 1) input ≡ word ++ rest = behind_is input place (byte ∷ []) (word ++ rest) e in
     let size : place + 1 + length word ≡ place + suc (length word) = omega arith in
     ap (λ (r : Result ℕ PieceRefusal). r >>= λ after. word_at word input after)
-        (byte_again byte input (word ++ rest) place e)
+    (byte_again byte input (word ++ rest) place e)
     ∙ (word_again word input rest (place + 1) next ∙ ap Ok size)
 
 -- ---- spaces, marks and the end
@@ -116,12 +117,12 @@ pub mark_again : (byte : ℕ) (input rest : List ℕ) (place : ℕ) → drop pla
 unfolding spaces
 mark_again byte input rest place e ne none =
     let before : spaces (drop place input) ≡ 1 =
-        ap spaces e ∙ ap (λ (b : Bool). suc (cond b (suc (suc (spaces rest))) 0)) (ne_eqb byte 32 ne) in
+    ap spaces e ∙ ap (λ (b : Bool). suc (cond b (suc (suc (spaces rest))) 0)) (ne_eqb byte 32 ne) in
     let next : drop (place + 1) input ≡ byte ∷ 32 ∷ rest = behind_is input place (32 ∷ []) (byte ∷ 32 ∷ rest) e in
     let last : drop (place + 2) input ≡ 32 ∷ rest = behind_is input place (32 ∷ byte ∷ []) (32 ∷ rest) e in
     let after : spaces (drop (place + 2) input) ≡ 1 = ap spaces last ∙ ap suc none in
     let there : byte_at byte input (place + 1) ≡ Ok (place + 2) = let two : place + 1 + 1 ≡ place + 2 =
-        omega arith in byte_again byte input (32 ∷ rest) (place + 1) next ∙ ap Ok two in
+    omega arith in byte_again byte input (32 ∷ rest) (place + 1) next ∙ ap Ok two in
     let three : place + 2 + 1 ≡ place + 3 = omega arith in
     ap (λ (n : ℕ). byte_at byte input (place + n) >>= λ after. Ok (after_spaces input after)) before
     ∙ (ap (λ (r : Result ℕ PieceRefusal). r >>= λ after. Ok (after_spaces input after)) there

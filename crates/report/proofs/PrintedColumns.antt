@@ -1,5 +1,7 @@
 -- The line of the columns that is printed is read as them.
-use Rattle.std.proofs.Common.{◌≡◌, ◌≢◌, ℕ, ◌+◌, ◌<◌, ◌^◌, ℤ, pos, negsuc, ◌≤ℤ◌, Bool, true, false, codes, List, [], ◌∷◌, ◌++◌, length, take, drop, All, Some, None, Result, Ok, refl, sym, ap, ◌∙◌, arith, append_assoc, length-append}
+use Rattle.std.proofs.Common.{◌≡◌, ◌≢◌, ℕ, ◌+◌, ◌<◌, ◌^◌, ℤ, pos, negsuc, ◌≤ℤ◌, Bool, true, false, codes, List, []}
+use Rattle.std.proofs.Common.{◌∷◌, ◌++◌, length, take, drop, All, Some, None, Result, Ok, refl, sym, ap, ◌∙◌, arith}
+use Rattle.std.proofs.Common.{append_assoc, length-append}
 use Rattle.std.specs.Prelude.{slice_get}
 use Rattle.std.specs.Fmt.{signed_decimal}
 use Rattle.std.specs.List.{flat_map}
@@ -24,7 +26,8 @@ use Rattle.pieces.specs.WordLaws.{byte_again, word_again, gap_again}
 use Rattle.pieces.specs.NumberLaws.{no_digit_first, long_again, long_no_space}
 use Rattle.pieces.specs.LiteralLaws.{literal_again}
 use Rattle.row_types.specs.FitsLaws.{number_is_long}
-use Rattle.report.specs.Schema.{kind_words, kind_of, null_words, id_at, kind_at, required_at, before_colon, named_at, column_at, gap_or_end, columns_at, listed, schema_of}
+use Rattle.report.specs.Schema.{kind_words, kind_of, null_words, id_at, kind_at, required_at, before_colon, named_at}
+use Rattle.report.specs.Schema.{column_at, gap_or_end, columns_at, listed, schema_of}
 use Rattle.report.specs.Printed.{kind_text, required_text, column_text, next_column_text, schema_text}
 use Rattle.report.proofs.SchemaLemmas.{item, ColumnsFrom, list_of, column_last, column_more}
 

@@ -1,5 +1,6 @@
 -- Each line of a report is printed as one line of UTF-8.
-use Rattle.std.proofs.Common.{◌≡◌, ℕ, ◌<◌, ℤ, Bool, true, false, codes, decimal, List, [], ◌∷◌, All, Option, refl, arith}
+use Rattle.std.proofs.Common.{◌≡◌, ℕ, ◌<◌, ℤ, Bool, true, false, codes, decimal, List, [], ◌∷◌, All, Option, refl}
+use Rattle.std.proofs.Common.{arith}
 use Rattle.std.specs.Fmt.{signed_decimal}
 use Rattle.std.specs.List.{flat_map, list_all}
 use Rattle.std.specs.Str.{is_utf8}
@@ -27,8 +28,10 @@ use Rattle.row_types.specs.FitsLaws.{number_is_long}
 use Rattle.history_log.specs.Runs.{run_text, next_run_text, runs_text}
 use Rattle.history_log.specs.Request.{next_row_text, rows_text, next_path_text, request_text}
 use Rattle.history_log.specs.Entry.{spaced, entry_text}
-use Rattle.report.specs.Printed.{kind_text, required_text, column_text, next_column_text, schema_text, start_text, row_text, is_text, HasTexts, FitsRow}
-use Rattle.report.proofs.PrintedBytes.{IsLine, empty_line, line_append, plain_then, plain_line, decimal_line, signed_line, optional_line, literal_line, hex_line}
+use Rattle.report.specs.Printed.{kind_text, required_text, column_text, next_column_text, schema_text, start_text}
+use Rattle.report.specs.Printed.{row_text, is_text, HasTexts, FitsRow}
+use Rattle.report.proofs.PrintedBytes.{IsLine, empty_line, line_append, plain_then, plain_line, decimal_line}
+use Rattle.report.proofs.PrintedBytes.{signed_line, optional_line, literal_line, hex_line}
 use Rattle.report.proofs.PrintedColumns.{id_is_int}
 use Rattle.report.proofs.PrintedLines.{long_or_none}
 

@@ -1,5 +1,6 @@
 -- The lines of the state at the start, of a row and of an entry that are printed are read as what they tell.
-use Rattle.std.proofs.Common.{◌≡◌, ℕ, ◌+◌, ◌<◌, ℤ, true, codes, decimal, List, [], ◌∷◌, ◌++◌, length, drop, Option, Some, None, Ok, IfSome, refl, sym, ap, ◌∙◌, arith, length-append}
+use Rattle.std.proofs.Common.{◌≡◌, ℕ, ◌+◌, ◌<◌, ℤ, true, codes, decimal, List, [], ◌∷◌, ◌++◌, length, drop, Option}
+use Rattle.std.proofs.Common.{Some, None, Ok, IfSome, refl, sym, ap, ◌∙◌, arith, length-append}
 use Rattle.std.specs.Fmt.{signed_decimal}
 use Rattle.std.proofs.lemmas.Bool.{lt-ltb}
 use Rattle.std.proofs.lemmas.List.{append-nil}
@@ -13,7 +14,8 @@ use Rattle.pieces.specs.Number.{optional_text}
 use Rattle.words.specs.Parts.{behind_is}
 use Rattle.pieces.specs.WordLaws.{word_again, gap_again, end_again, no_space_at_end}
 use Rattle.pieces.specs.Decimal.{is_long_or_none}
-use Rattle.pieces.specs.NumberLaws.{no_digit_first, no_digit_at_end, unsigned_again, long_again, optional_long_again, unsigned_no_space, long_no_space, optional_no_space}
+use Rattle.pieces.specs.NumberLaws.{no_digit_first, no_digit_at_end, unsigned_again, long_again, optional_long_again}
+use Rattle.pieces.specs.NumberLaws.{unsigned_no_space, long_no_space, optional_no_space}
 use Rattle.row_pred.specs.Cells.{cells_text}
 use Rattle.row_pred.specs.CellsLaws.{cells_again, cells_no_space}
 use Rattle.history_log.specs.Entry.{entry_text, entry_of}

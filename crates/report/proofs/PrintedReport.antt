@@ -1,5 +1,6 @@
 -- A report that is printed is read as what was told.
-use Rattle.std.proofs.Common.{◌≡◌, ℕ, ◌+◌, ◌==◌, Bool, true, false, cond, codes, List, [], ◌∷◌, ◌++◌, All, Result, Ok, Err, refl, sym, ap, ◌∙◌, append_assoc, append-nil}
+use Rattle.std.proofs.Common.{◌≡◌, ℕ, ◌+◌, ◌==◌, Bool, true, false, cond, codes, List, [], ◌∷◌, ◌++◌, All, Result, Ok}
+use Rattle.std.proofs.Common.{Err, refl, sym, ap, ◌∙◌, append_assoc, append-nil}
 use Rattle.std.specs.List.{flat_map, list_all}
 use Rattle.std.specs.Str.{is_utf8}
 use Rattle.std.proofs.lemmas.Bool.{and_parts, not-true}
@@ -22,7 +23,8 @@ use Rattle.report.specs.Start.{without_rows, start_of}
 use Rattle.report.specs.Rows.{joined}
 use Rattle.report.specs.Lines.{begun, line_read}
 use Rattle.report.specs.Report.{at_line, report_behind, report_of}
-use Rattle.report.specs.Printed.{schema_text, start_text, row_text, Told, lined, report_text, HasTexts, FitsRow, IsTold, IsReadBack, all_joined, start_told}
+use Rattle.report.specs.Printed.{schema_text, start_text, row_text, Told, lined, report_text, HasTexts, FitsRow}
+use Rattle.report.specs.Printed.{IsTold, IsReadBack, all_joined, start_told}
 use Rattle.report.proofs.PrintedBytes.{is_inner, IsLine, plain_line}
 use Rattle.report.proofs.PrintedInner.{schema_is_line, start_is_line, row_is_line, entry_is_line}
 use Rattle.report.proofs.PrintedColumns.{schema_again}

@@ -1,5 +1,6 @@
 -- A report, byte by byte.
-use Rattle.std.proofs.Common.{◌≡◌, ◌≢◌, ℕ, ◌+◌, ◌≤◌, ◌<◌, Bool, cond, eqb, List, [], ◌∷◌, ◌++◌, length, get_or, drop, slice_range, Result, Ok, Err, sym, ap, ◌∙◌, arith}
+use Rattle.std.proofs.Common.{◌≡◌, ◌≢◌, ℕ, ◌+◌, ◌≤◌, ◌<◌, Bool, cond, eqb, List, [], ◌∷◌, ◌++◌, length, get_or, drop}
+use Rattle.std.proofs.Common.{slice_range, Result, Ok, Err, sym, ap, ◌∙◌, arith}
 use Rattle.std.proofs.lemmas.Bool.{eq-eqb, ne_eqb}
 use Rattle.std.proofs.lemmas.List.{at_drop_more, at_drop_all}
 use Rattle.words.specs.Reading.{◌>>=◌, Gives, map_refusal}
@@ -30,8 +31,8 @@ report_byte number stage bytes start at total before inside other so_far =
     let line : List ℕ = slice_range bytes start at in
     let step : report_at number stage bytes start at ≡ report_behind number stage (line ++ get_or bytes at 0 ∷ []) (drop (at + 1) bytes) =
     byte_step number stage line bytes at inside
-        ∙ ap (λ (b : Bool). cond b (map_refusal (at_line number) (line_read stage line) >>= λ next. report_behind (number + 1) next [] (drop (at + 1) bytes))
-        (report_behind number stage (line ++ get_or bytes at 0 ∷ []) (drop (at + 1) bytes))) (ne_eqb _ _ other) in
+    ∙ ap (λ (b : Bool). cond b (map_refusal (at_line number) (line_read stage line) >>= λ next. report_behind (number + 1) next [] (drop (at + 1) bytes))
+    (report_behind number stage (line ++ get_or bytes at 0 ∷ []) (drop (at + 1) bytes))) (ne_eqb _ _ other) in
     ap (λ (l : List ℕ). report_behind number stage l (drop (at + 1) bytes)) (range_more bytes start at before inside) ∙ (sym step ∙ so_far)
 
 -- the line that ends here
@@ -41,9 +42,9 @@ line_step : (number : ℕ) (stage : Stage) (bytes : List ℕ) (start at : ℕ) (
 line_step number stage bytes start at total inside is so_far =
     let line : List ℕ = slice_range bytes start at in
     sym so_far
-        ∙ (byte_step number stage line bytes at inside
-        ∙ ap (λ (b : Bool). cond b (map_refusal (at_line number) (line_read stage line) >>= λ next. report_behind (number + 1) next [] (drop (at + 1) bytes))
-        (report_behind number stage (line ++ get_or bytes at 0 ∷ []) (drop (at + 1) bytes))) (eq-eqb _ _ is))
+    ∙ (byte_step number stage line bytes at inside
+    ∙ ap (λ (b : Bool). cond b (map_refusal (at_line number) (line_read stage line) >>= λ next. report_behind (number + 1) next [] (drop (at + 1) bytes))
+    (report_behind number stage (line ++ get_or bytes at 0 ∷ []) (drop (at + 1) bytes))) (eq-eqb _ _ is))
 
 -- a line was read
 pub report_line : (number : ℕ) (stage next : Stage) (bytes : List ℕ) (start at : ℕ)

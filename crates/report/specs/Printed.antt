@@ -1,7 +1,7 @@
 -- The one text that a report is printed as: a line for the columns, one for the state at the start, one for each
 -- of its rows, one for each entry, and the end.
-use Rattle.std.specs.Prelude.{◌≡◌, ◌<◌, ℕ, ℤ, Bool, true, IfSome, All, List, [], ◌∷◌, ◌++◌, Option, Result, Ok, codes,
-  decimal, if◌then◌else◌}
+use Rattle.std.specs.Prelude.{◌≡◌, ◌<◌, ℕ, ℤ, Bool, true, IfSome, All, List, [], ◌∷◌, ◌++◌, Option, Result, Ok, codes}
+use Rattle.std.specs.Prelude.{decimal, if◌then◌else◌}
 use Rattle.std.specs.Fmt.{signed_decimal}
 use Rattle.std.specs.List.{flat_map, list_all}
 use Rattle.std.specs.Str.{is_utf8}

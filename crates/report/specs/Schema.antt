@@ -1,6 +1,6 @@
 -- The line of the columns: the word, and a column behind each space.
-use Rattle.std.specs.Prelude.{Bool, ℕ, zero, suc, ◌+◌, ◌==◌, ℤ, List, [], ◌∷◌, length, Option, Some, None, Result, Ok,
-  Err, codes, if◌then◌else◌}
+use Rattle.std.specs.Prelude.{Bool, ℕ, zero, suc, ◌+◌, ◌==◌, ℤ, List, [], ◌∷◌, length, Option, Some, None, Result, Ok}
+use Rattle.std.specs.Prelude.{Err, codes, if◌then◌else◌}
 use Rattle.words.specs.Reading.{◌>>=◌, map_refusal, map_value}
 use Rattle.row_types.specs.declared.column.Column.{Column}
 use Rattle.row_types.specs.declared.column.Kind.{Kind}

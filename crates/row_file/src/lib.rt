@@ -8,6 +8,6 @@
 #![tactic(auto)]
 
 pub use row_reading::{CheckedRows, check_file, file_columns, read_rows};
-pub use row_writing::write_rows;
 pub use row_types::CellRef;
+pub use row_writing::write_rows;
 pub use stored_rows::{RowRefusal, row_id, row_last};

@@ -1,6 +1,6 @@
 -- A cell as it stands in a text: null, true, false, a number, a text between quotes, or bytes in hexadecimal.
-use Rattle.std.specs.Prelude.{ℕ, zero, suc, ◌==◌, Bool, true, false, ◌||◌, List, [], ◌∷◌, slice_get, Option, Some,
-  None, Result, Ok, Err, codes, if◌then◌else◌}
+use Rattle.std.specs.Prelude.{ℕ, zero, suc, ◌==◌, Bool, true, false, ◌||◌, List, [], ◌∷◌, slice_get, Option, Some}
+use Rattle.std.specs.Prelude.{None, Result, Ok, Err, codes, if◌then◌else◌}
 use Rattle.std.specs.Fmt.{signed_decimal}
 use Rattle.std.specs.Option.{option_map}
 use Rattle.words.specs.Reading.{◌>>=◌, map_refusal, map_value}

@@ -1,6 +1,6 @@
 -- Laws of a cell: a printed cell is read, if no digit follows it.
-use Rattle.std.proofs.Common.{◌≡◌, ◌≢◌, ℕ, suc, ◌+◌, ◌^◌, ◌<◌, ℤ, pos, negsuc, Bool, true, false, not, ◌&&◌, is_some,
-  codes, if◌then◌else◌, List, [], ◌∷◌, ◌++◌, length, drop, Some, Ok, refl, ap, arith}
+use Rattle.std.proofs.Common.{◌≡◌, ◌≢◌, ℕ, suc, ◌+◌, ◌^◌, ◌<◌, ℤ, pos, negsuc, Bool, true, false, not, ◌&&◌, is_some}
+use Rattle.std.proofs.Common.{codes, if◌then◌else◌, List, [], ◌∷◌, ◌++◌, length, drop, Some, Ok, refl, ap, arith}
 use Rattle.std.specs.Prelude.{slice_get, nat_lt}
 use Rattle.std.specs.Fmt.{decimal, signed_decimal}
 use Rattle.std.specs.List.{flat_map}
@@ -97,32 +97,41 @@ pub any_cell_again : (column : Column) (cell : Cell) (input rest : List ℕ) (pl
     → has_real_bytes cell ≡ true → drop place input ≡ cell_text cell ++ rest → stops rest ≡ true
     → any_cell_at input place ≡ Ok (Some cell, place + length (cell_text cell))
 any_cell_again column Null input rest place fit real e s =
-    rw (stands_first 110 input (codes "ull" ++ rest) place e, one_of_again cell_words 0 (codes "null")
-        input rest place refl refl e) refl
+    rw (
+      stands_first 110 input (codes "ull" ++ rest) place e,
+      one_of_again cell_words 0 (codes "null")
+          input rest place refl refl e,
+    ) refl
 any_cell_again column (Flag true) input rest place fit real e s =
-    rw (stands_first 116 input (codes "rue" ++ rest) place e, one_of_again cell_words 1 (codes "true")
-        input rest place refl refl e) refl
+    rw (
+      stands_first 116 input (codes "rue" ++ rest) place e,
+      one_of_again cell_words 1 (codes "true")
+          input rest place refl refl e,
+    ) refl
 any_cell_again column (Flag false) input rest place fit real e s =
-    rw (stands_first 102 input (codes "alse" ++ rest) place e, one_of_again cell_words 2 (codes "false")
-        input rest place refl refl e) refl
+    rw (
+      stands_first 102 input (codes "alse" ++ rest) place e,
+      one_of_again cell_words 2 (codes "false")
+          input rest place refl refl e,
+    ) refl
 any_cell_again column (Num number) input rest place fit real e s =
     let long = number_is_long column.kind number fit in
     let begins = number_begins number input rest place long e in
     rw (begins.no_text, begins.no_bytes, begins.number)
-        (ap (map_value (λ read. (option_map Num read.0, read.1)))
-        (any_number_again number input rest place long e (stops_digits rest s)))
+    (ap (map_value (λ read. (option_map Num read.0, read.1)))
+    (any_number_again number input rest place long e (stops_digits rest s)))
 any_cell_again column (Text text) input rest place fit real e s =
     let quote = is_this_again 34 input _ place e in
     taken _ _ _ _ quote
-        (ap (map_value (λ (read : List ℕ × ℕ). (Some (Text read.0), read.1))) (literal_again text input rest place e))
+    (ap (map_value (λ (read : List ℕ × ℕ). (Some (Text read.0), read.1))) (literal_again text input rest place e))
 any_cell_again column (Bytes bytes) input rest place fit real e s =
     let ne : 120 ≢ 34 = omega arith in
     let no_quote = is_this_other 34 120 input _ place ne e in
     let x = is_this_again 120 input _ place e in
     passed _ _ _ _ no_quote
-        (taken _ _ _ _ x
-        (ap (map_value (λ (read : List ℕ × ℕ). (Some (Bytes read.0), read.1)))
-        (hex_again bytes input rest place real e (stops_hex rest s))))
+    (taken _ _ _ _ x
+    (ap (map_value (λ (read : List ℕ × ℕ). (Some (Bytes read.0), read.1)))
+    (hex_again bytes input rest place real e (stops_hex rest s))))
 
 -- a cell that fits may stand there
 pub fitted_again : (column : Column) (cell : Cell) (place after : ℕ) → fits column cell ≡ true
@@ -140,7 +149,7 @@ pub cell_again : (column : Column) (cell : Cell) (input rest : List ℕ) (place 
 unfolding cell_at
 cell_again column cell input rest place fit real e s =
     rw (any_cell_again column cell input rest place fit real e s)
-        (fitted_again column cell place (place + length (cell_text cell)) fit)
+    (fitted_again column cell place (place + length (cell_text cell)) fit)
 
 -- no printed cell begins with a space
 pub cell_no_space : (column : Column) (cell : Cell) (rest : List ℕ) → fits column cell ≡ true

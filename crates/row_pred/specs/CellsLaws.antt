@@ -1,6 +1,6 @@
 -- Laws of the cells of a row: printed cells are read, if no digit follows them.
-use Rattle.std.proofs.Common.{◌≡◌, ℕ, ◌+◌, true, List, [], ◌∷◌, ◌++◌, length, drop, Ok, refl, sym, ap, ◌∙◌, arith,
-  append_assoc, length-append}
+use Rattle.std.proofs.Common.{◌≡◌, ℕ, ◌+◌, true, List, [], ◌∷◌, ◌++◌, length, drop, Ok, refl, sym, ap, ◌∙◌, arith}
+use Rattle.std.proofs.Common.{append_assoc, length-append}
 use Rattle.std.specs.List.{flat_map, list_all}
 use Rattle.std.proofs.lemmas.Bool.{and_parts}
 use Rattle.std.proofs.lemmas.List.{append-nil}
@@ -37,17 +37,17 @@ others_again first read (column ∷ columns) (cell ∷ cells) input rest place f
     let real_parts = and_parts (has_real_bytes cell) (list_all has_real_bytes cells) real in
     let more = flat_map spaced_text cells ++ rest in
     let whole : drop place input ≡ 32 ∷ (cell_text cell ++ more) =
-        e ∙ ap (λ (l : List ℕ). 32 ∷ l) (append_assoc (cell_text cell) (flat_map spaced_text cells) rest) in
+    e ∙ ap (λ (l : List ℕ). 32 ∷ l) (append_assoc (cell_text cell) (flat_map spaced_text cells) rest) in
     let gap = gap_again input (cell_text cell ++ more) place whole (cell_no_space column cell more fit_parts.0) in
     let here : drop (place + 1) input ≡ cell_text cell ++ more =
-        behind_is input place (32 ∷ []) (cell_text cell ++ more) whole in
+    behind_is input place (32 ∷ []) (cell_text cell ++ more) whole in
     let one = cell_again column cell input more (place + 1) fit_parts.0 real_parts.0 here (others_stop cells rest s) in
     let next : drop (place + 1 + length (cell_text cell)) input ≡ more =
-        behind_is input (place + 1) (cell_text cell) more here in
+    behind_is input (place + 1) (cell_text cell) more here in
     let others = others_again first (read ++ cell ∷ []) columns cells input rest (place + 1 + length (cell_text cell))
-        fit_parts.1 real_parts.1 next s in
+    fit_parts.1 real_parts.1 next s in
     let size : place + length (flat_map spaced_text (cell ∷ cells)) ≡ place + 1 + length (cell_text cell) + length
-        (flat_map spaced_text cells) = omega (arith, length-append (cell_text cell) (flat_map spaced_text cells)) in
+    (flat_map spaced_text cells) = omega (arith, length-append (cell_text cell) (flat_map spaced_text cells)) in
     rw (gap, one, others, append_assoc read (cell ∷ []) cells, size) refl
 
 -- the printed cells of a row are read
@@ -65,13 +65,13 @@ cells_again (column ∷ columns) (cell ∷ cells) input rest place row e s =
     let real_parts = and_parts (has_real_bytes cell) (list_all has_real_bytes cells) row.1 in
     let more = flat_map spaced_text cells ++ rest in
     let here : drop place input ≡ cell_text cell ++ more =
-        e ∙ append_assoc (cell_text cell) (flat_map spaced_text cells) rest in
+    e ∙ append_assoc (cell_text cell) (flat_map spaced_text cells) rest in
     let one = cell_again column cell input more place fit_parts.0 real_parts.0 here (others_stop cells rest s) in
     let next : drop (place + length (cell_text cell)) input ≡ more = behind_is input place (cell_text cell) more here in
     let others = others_again cell [] columns cells input rest (place + length (cell_text cell))
-        fit_parts.1 real_parts.1 next s in
+    fit_parts.1 real_parts.1 next s in
     let size : place + length (cells_text (cell ∷ cells)) ≡ place + length (cell_text cell) + length
-        (flat_map spaced_text cells) = omega (arith, length-append (cell_text cell) (flat_map spaced_text cells)) in
+    (flat_map spaced_text cells) = omega (arith, length-append (cell_text cell) (flat_map spaced_text cells)) in
     rw (one, others, size) refl
 
 -- no printed row begins with a space
@@ -83,7 +83,7 @@ cells_no_space [] (cell ∷ cells) rest fit none = cc
 cells_no_space (column ∷ columns) (cell ∷ cells) rest fit none =
     let parts = and_parts (fits column cell) (fits_row columns cells) fit in
     rw (append_assoc (cell_text cell) (flat_map spaced_text cells) rest)
-        (cell_no_space column cell (flat_map spaced_text cells ++ rest) parts.0)
+    (cell_no_space column cell (flat_map spaced_text cells ++ rest) parts.0)
 
 -- a row that is the whole text is read
 pub row_again : (columns : List Column) (cells : List Cell) → IsRow columns cells

@@ -1,6 +1,6 @@
 -- Laws of what is read: cells fit their columns, and their bytes are below 256.
-use Rattle.std.proofs.Common.{◌≡◌, ℕ, zero, suc, ℤ, true, not, List, [], ◌∷◌, ◌++◌, Option, Some, None, IfOk, refl,
-  sym, ap, ◌∙◌, append_assoc, subst}
+use Rattle.std.proofs.Common.{◌≡◌, ℕ, zero, suc, ℤ, true, not, List, [], ◌∷◌, ◌++◌, Option, Some, None, IfOk, refl}
+use Rattle.std.proofs.Common.{sym, ap, ◌∙◌, append_assoc, subst}
 use Rattle.std.specs.Prelude.{slice_get}
 use Rattle.std.specs.List.{list_all}
 use Rattle.std.specs.Option.{option_map}
@@ -45,16 +45,16 @@ number_real (None, after) = tt
 any_real : (input : List ℕ) (place : ℕ) → IfOk (any_cell_at input place) IsReal
 any_real input place =
     if_chosen IsReal (is_this 34 (slice_get input place)) _ _
-        (if_viewed IsReal (λ (read : List ℕ × ℕ). (Some (Text read.0), read.1)) (literal_at input place)
-        (if_read _ (literal_at input place) (λ read is. refl)))
+    (if_viewed IsReal (λ (read : List ℕ × ℕ). (Some (Text read.0), read.1)) (literal_at input place)
+    (if_read _ (literal_at input place) (λ read is. refl)))
     (if_chosen IsReal (is_this 120 (slice_get input place)) _ _
-        (if_viewed IsReal (λ (read : List ℕ × ℕ). (Some (Bytes read.0), read.1)) (hex_at input place)
-        (hex_fits input place))
+    (if_viewed IsReal (λ (read : List ℕ × ℕ). (Some (Bytes read.0), read.1)) (hex_at input place)
+    (hex_fits input place))
     (if_chosen IsReal (begins_number (slice_get input place)) _ _
-        (if_viewed IsReal (λ (read : Option ℤ × ℕ). (option_map Num read.0, read.1)) (any_number_at input place)
-        (if_read _ (any_number_at input place) (λ read is. number_real read)))
+    (if_viewed IsReal (λ (read : Option ℤ × ℕ). (option_map Num read.0, read.1)) (any_number_at input place)
+    (if_read _ (any_number_at input place) (λ read is. number_real read)))
     (if_viewed IsReal (λ (read : ℕ × ℕ). (Some (word_cell read.0), read.1)) (one_of cell_words input place)
-        (if_read _ (one_of cell_words input place) (λ read is. word_real read)))))
+    (if_read _ (one_of cell_words input place) (λ read is. word_real read)))))
 
 -- the cell may be written in the column
 abbrev pub MayStand : Column → Cell × ℕ → Type 0
@@ -80,8 +80,8 @@ pub cell_fits : (column : Column) (input : List ℕ) (place : ℕ) → IfOk (cel
 unfolding cell_at
 cell_fits column input place =
     if_then IsReal (MayStand column) (map_refusal of_piece (any_cell_at input place)) (λ read. fitted column place read)
-        (if_renamed IsReal of_piece (any_cell_at input place) (any_real input place))
-        (λ read. fitted_fits column place read)
+    (if_renamed IsReal of_piece (any_cell_at input place) (any_real input place))
+    (λ read. fitted_fits column place read)
 
 -- ---- the cells of a row
 
@@ -89,9 +89,11 @@ cell_fits column input place =
 row_on : (column : Column) (columns : List Column) (cell : Cell × ℕ) (cells : List Cell) → MayStand column cell
     → IsRow columns cells → IsRow (column ∷ columns) (cell.0 ∷ cells)
 unfolding fits_row
-row_on column columns cell cells may row =
-    (and_from (fits column cell.0) (fits_row columns cells) may.0 row.0, and_from (has_real_bytes cell.0)
-        (list_all has_real_bytes cells) may.1 row.1)
+row_on column columns cell cells may row = (
+  and_from (fits column cell.0) (fits_row columns cells) may.0 row.0,
+  and_from (has_real_bytes cell.0)
+      (list_all has_real_bytes cells) may.1 row.1,
+)
 
 -- the cells behind those that were read are a row of these columns
 abbrev IsRowBehind : List Cell → List Column → List Cell × ℕ → Type 0
@@ -101,9 +103,12 @@ IsRowBehind read columns cells = (more : List Cell) × (cells.0 ≡ read ++ more
 behind_cell : (read : List Cell) (column : Column) (columns : List Column) (cell : Cell × ℕ) (cells : List Cell × ℕ)
     → MayStand column cell → IsRowBehind (read ++ cell.0 ∷ []) columns cells
     → IsRowBehind read (column ∷ columns) cells
-behind_cell read column columns cell cells may others =
-    (cell.0 ∷ others.0, others.1 ∙ append_assoc read (cell.0 ∷ []) others.0, row_on column columns cell others.0 may
-        others.2)
+behind_cell read column columns cell cells may others = (
+  cell.0 ∷ others.0,
+  others.1 ∙ append_assoc read (cell.0 ∷ []) others.0,
+  row_on column columns cell others.0 may
+      others.2,
+)
 
 -- the cells that are read behind others are a row of the columns that were left
 pub cells_fit_behind : (columns : List Column) (read : List Cell) (input : List ℕ) (place : ℕ)
@@ -112,17 +117,17 @@ unfolding cells_from fits_row
 cells_fit_behind [] read input place = ([], sym (append-nil read), (refl, refl))
 cells_fit_behind (column ∷ columns) read input place =
     if_then (λ _. Unit {0}) (IsRowBehind read (column ∷ columns)) (next_at read input place)
-        (λ start. cell_at column input start >>= λ cell. cells_from (read ++ cell.0 ∷ []) columns input cell.1)
-        (if_any (next_at read input place)) (λ start _.
+    (λ start. cell_at column input start >>= λ cell. cells_from (read ++ cell.0 ∷ []) columns input cell.1)
+    (if_any (next_at read input place)) (λ start _.
     if_then (MayStand column) (IsRowBehind read (column ∷ columns)) (cell_at column input start)
-        (λ cell. cells_from (read ++ cell.0 ∷ []) columns input cell.1) (cell_fits column input start) (λ cell may.
+    (λ cell. cells_from (read ++ cell.0 ∷ []) columns input cell.1) (cell_fits column input start) (λ cell may.
     IfOk-weaker (cells_from (read ++ cell.0 ∷ []) columns input cell.1) (IsRowBehind (read ++ cell.0 ∷ []) columns)
-        (IsRowBehind read (column ∷ columns)) (λ cells. behind_cell read column columns cell cells may)
-        (cells_fit_behind columns (read ++ cell.0 ∷ []) input cell.1)))
+    (IsRowBehind read (column ∷ columns)) (λ cells. behind_cell read column columns cell cells may)
+    (cells_fit_behind columns (read ++ cell.0 ∷ []) input cell.1)))
 
 -- the cells that are read are a row of the columns
 pub cells_fit : (columns : List Column) (input : List ℕ) (place : ℕ) → IfOk (cells_at columns input place)
     (λ cells. IsRow columns cells.0)
 cells_fit columns input place =
     IfOk-weaker (cells_at columns input place) (IsRowBehind [] columns) (λ cells. IsRow columns cells.0)
-        (λ cells row. subst (IsRow columns) (sym row.1) row.2) (cells_fit_behind columns [] input place)
+    (λ cells row. subst (IsRow columns) (sym row.1) row.2) (cells_fit_behind columns [] input place)

@@ -1,5 +1,6 @@
 -- The columns that a file's own fields make can be read from them.
-use Rattle.std.proofs.Common.{◌≡◌, ℕ, ◌+◌, Bool, true, false, List, [], ◌∷◌, ◌++◌, append_assoc, append-nil, length, All, Some, None, Result, Ok, Err, refl, sym, ap, ◌∙◌, subst, inl, inr}
+use Rattle.std.proofs.Common.{◌≡◌, ℕ, ◌+◌, Bool, true, false, List, [], ◌∷◌, ◌++◌, append_assoc, append-nil, length}
+use Rattle.std.proofs.Common.{All, Some, None, Result, Ok, Err, refl, sym, ap, ◌∙◌, subst, inl, inr}
 use Rattle.std.specs.Prelude.{ℤ, int_lt, nat_lt, ◌||◌, not, Option, IfOk, IfSome}
 use Rattle.std.specs.Ordering.{int_eq}
 use Rattle.std.proofs.lemmas.Bool.{cases_Bool, false≢true, or_parts, false_from_ne_true}
@@ -22,7 +23,8 @@ use Rattle.stored_rows.specs.declared.refusal.RowRefusal.{RowRefusal}
 use Rattle.stored_rows.specs.Kind.{Level, Nullable, nullable, holds, is_allowed, int_kind, long_kind, kind_of}
 use Rattle.stored_rows.specs.Field.{is_this, find_from, find, fields_of}
 use Rattle.row_reading.specs.File.{Opened, opened}
-use Rattle.row_reading.specs.Columns.{first_reserved_id, column_of_kind, column_of_type, with_field, columns_from, no_fault, checked, columns_in, file_columns_of}
+use Rattle.row_reading.specs.Columns.{first_reserved_id, column_of_kind, column_of_type, with_field, columns_from}
+use Rattle.row_reading.specs.Columns.{no_fault, checked, columns_in, file_columns_of}
 use Rattle.stored_rows.specs.Refusal.{is_memory}
 use Rattle.stored_rows.specs.Stored.{IsHeld}
 

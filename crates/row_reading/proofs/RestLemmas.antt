@@ -1,5 +1,6 @@
 -- What is left of a file that was checked, row by row.
-use Rattle.std.proofs.Common.{◌≡◌, ℕ, zero, suc, ◌-◌, ◌<◌, ◌≤◌, true, List, [], ◌∷◌, ◌++◌, length, Result, Ok, Err, append_assoc, refl, sym, ap, ◌∙◌, arith}
+use Rattle.std.proofs.Common.{◌≡◌, ℕ, zero, suc, ◌-◌, ◌<◌, ◌≤◌, true, List, [], ◌∷◌, ◌++◌, length, Result, Ok, Err}
+use Rattle.std.proofs.Common.{append_assoc, refl, sym, ap, ◌∙◌, arith}
 use Rattle.std.specs.Prelude.{is_ok}
 use Rattle.std.proofs.lemmas.List.{append-nil}
 use Rattle.words.specs.Reading.{◌>>=◌, map_value, repeated, value_or}
@@ -77,8 +78,8 @@ pub row_went : (layout : Layout) (rest : Rest) (row : StoredRow) (after : ℕ) �
     → IsRest layout (went rest after) × (rest_of_file layout rest ≡ row ∷ rest_of_file layout (went rest after))
 row_went layout rest row after right some within taken =
     let all : rest_of_block layout rest ≡ before row (rest_of_block layout (went rest after)) =
-        ap (λ (left : ℕ). of_block layout.schema layout.columns.now rest.block.now left rest.place) (one_less rest.left some)
-        ∙ row_taken layout.schema layout.columns.now rest.block.now (rest.left - 1) rest.place row after taken in
+    ap (λ (left : ℕ). of_block layout.schema layout.columns.now rest.block.now left rest.place) (one_less rest.left some)
+    ∙ row_taken layout.schema layout.columns.now rest.block.now (rest.left - 1) rest.place row after taken in
     let both = right_behind row (rest_of_block layout (went rest after)) (sym (ap is_ok all) ∙ right.block) in
     (record { within = within; block = both.0; behind = right.behind }, ap (λ (rows : List StoredRow). rows ++ value_or [] (rows_behind layout rest)) (ap (value_or []) all ∙ both.1))
 

@@ -1,5 +1,6 @@
 -- A row that is cleared, taken value by value, and checked.
-use Rattle.std.proofs.Common.{◌≡◌, ℕ, zero, suc, ◌+◌, ◌<◌, ◌≤◌, List, [], ◌∷◌, length, map, get_or, drop, Result, Ok, Err, refl, sym, ap, ◌∙◌, arith, inl, inr}
+use Rattle.std.proofs.Common.{◌≡◌, ℕ, zero, suc, ◌+◌, ◌<◌, ◌≤◌, List, [], ◌∷◌, length, map, get_or, drop, Result, Ok}
+use Rattle.std.proofs.Common.{Err, refl, sym, ap, ◌∙◌, arith, inl, inr}
 use Rattle.std.specs.Prelude.{◌&&◌, replicate}
 use Rattle.std.proofs.lemmas.Bool.{cases_Bool}
 use Rattle.std.specs.declared.option.Option.{Option}
@@ -23,7 +24,8 @@ use Rattle.row_types.specs.declared.cell_ref.CellRef.{CellRef}
 use Rattle.row_types.specs.declared.cell_ref.CellRef.TheVariants as refs
 use Rattle.stored_rows.specs.declared.refusal.RowRefusal.{RowRefusal}
 use Rattle.row_types.specs.CellRef.{is_null, lent_cell, number_of}
-use Rattle.stored_rows.specs.Field.{Found, find, find_from, fields_of_level, fields_of, row_id_field, last_updated_field}
+use Rattle.stored_rows.specs.Field.{Found, find, find_from, fields_of_level, fields_of, row_id_field}
+use Rattle.stored_rows.specs.Field.{last_updated_field}
 use Rattle.stored_rows.specs.Row.{cell_at, cell_with, values_of_level, values_of, stored_row, check_nulls}
 use Rattle.row_reading.specs.Plan.{as_row, value_as_row}
 

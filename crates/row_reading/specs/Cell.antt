@@ -65,7 +65,7 @@ abbrev pub beside_null_at : Primitive → Option ℕ → List ℕ → Cursor →
 beside_null_at primitive None input at = primitive_at primitive input at
 beside_null_at primitive (Some branch) input at =
     choice_at 2 input at >>= λ choice. if choice.0 == branch then Ok (cells.Null, choice.1) else primitive_at
-        primitive input choice.1
+    primitive input choice.1
 
 -- the cell at a cursor, of the form
 abbrev pub form_at : Form → List ℕ → Cursor → Result (Cell × Cursor) DatumRefusal

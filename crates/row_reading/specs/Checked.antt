@@ -1,6 +1,6 @@
 -- The rows of a file that were checked, one after the other.
-use Rattle.std.specs.Prelude.{◌≡◌, ℕ, ◌+◌, ◌≤◌, ◌^◌, ℤ, pos, ◌+ℤ◌, ◌<ℤ◌, true, List, [], ◌++◌, length, map, Option,
-  Result, is_ok, IfSome}
+use Rattle.std.specs.Prelude.{◌≡◌, ℕ, ◌+◌, ◌≤◌, ◌^◌, ℤ, pos, ◌+ℤ◌, ◌<ℤ◌, true, List, [], ◌++◌, length, map, Option}
+use Rattle.std.specs.Prelude.{Result, is_ok, IfSome}
 use Rattle.words.specs.Reading.{map_value, repeated, value_or}
 use Rattle.row_types.specs.declared.row.Row.{Row}
 use Rattle.row_types.specs.declared.row.StoredRow.{StoredRow}
@@ -29,7 +29,7 @@ pub record Shown : Type 0 where
 abbrev pub rest_of_block : Layout → Rest → Result (List StoredRow) RowRefusal
 rest_of_block layout rest =
     map_value (λ read. read.0)
-        (repeated (next_row layout.schema layout.columns.now rest.block.now) rest.left ([], rest.place))
+    (repeated (next_row layout.schema layout.columns.now rest.block.now) rest.left ([], rest.place))
 
 -- the rows of the blocks behind it
 abbrev pub rows_behind : Layout → Rest → Result (List StoredRow) RowRefusal

@@ -1,7 +1,7 @@
 -- The checks of a file that was opened: what comes before its rows, and then its rows.
 -- Each is a part of rows_of (specs/File.antt), which one call checks or reads.
-use Rattle.std.specs.Prelude.{◌≡◌, ◌≤◌, ◌^◌, ℤ, pos, ◌+ℤ◌, ◌<ℤ◌, true, List, [], length, Option, Result, Ok, is_ok,
-  IfSome}
+use Rattle.std.specs.Prelude.{◌≡◌, ◌≤◌, ◌^◌, ℤ, pos, ◌+ℤ◌, ◌<ℤ◌, true, List, [], length, Option, Result, Ok, is_ok}
+use Rattle.std.specs.Prelude.{IfSome}
 use Rattle.words.specs.Reading.{◌>>=◌, map_value, value_or}
 use Rattle.row_types.specs.declared.column.Column.{Column}
 use Rattle.row_types.specs.declared.row.Row.{Row}
@@ -30,7 +30,7 @@ pub record AreRight (columns : List Column) (schema : Schema) (blocks : List Blo
   pub rows : is_ok (blocks_rows schema columns 1 blocks) ≡ true
   pub few : length (value_or [] (blocks_rows schema columns 1 blocks)) ≤ most_rows
   pub ids : IfSome first
-    (λ id. (id +ℤ pos (length (value_or [] (blocks_rows schema columns 1 blocks)))) <ℤ pos (2 ^ 63))
+      (λ id. (id +ℤ pos (length (value_or [] (blocks_rows schema columns 1 blocks)))) <ℤ pos (2 ^ 63))
 
 -- the rows of a file of which all was checked that comes before them
 unfoldable pub rows_of_blocks : List Column → Schema → List Block → Option ℤ → ℤ → Option ℤ

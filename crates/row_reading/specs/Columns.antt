@@ -1,7 +1,7 @@
 -- The columns of a data file, by its own schema.
 -- Iceberg spec, "Appendix A: Format-specific Requirements", "Avro"; "Reserved Field IDs".
-use Rattle.std.specs.Prelude.{ℕ, ℤ, pos, int_lt, Bool, not, List, [], ◌∷◌, ◌++◌, length, Option, Some, None, Result,
-  Ok, Err, nat_lt, ◌||◌, if◌then◌else◌}
+use Rattle.std.specs.Prelude.{ℕ, ℤ, pos, int_lt, Bool, not, List, [], ◌∷◌, ◌++◌, length, Option, Some, None, Result}
+use Rattle.std.specs.Prelude.{Ok, Err, nat_lt, ◌||◌, if◌then◌else◌}
 use Rattle.words.specs.Reading.{◌>>=◌, map_value}
 use Rattle.row_types.specs.declared.column.Column.{Column}
 use Rattle.row_types.specs.declared.column.Kind.{Kind}
@@ -34,7 +34,7 @@ with_field before field None = Err (WrongKind (pos 0))
 with_field before field (Some id) =
     if int_lt id first_reserved_id
     then map_value (λ column. before ++ column ∷ [])
-      (column_of_type id (out-Field field).name (nullable (out-Field field).schema))
+    (column_of_type id (out-Field field).name (nullable (out-Field field).schema))
     else Ok before
 
 -- the columns of fields, behind those before them

@@ -1,7 +1,7 @@
 -- The rows of a data file, or the first refusal in the order of the checks.
 -- Avro 1.11, "Object Container Files"; Iceberg spec, "Row Lineage".
-use Rattle.std.specs.Prelude.{ℕ, ◌+◌, ◌-◌, ◌^◌, ◌==◌, ℤ, pos, negsuc, ◌+ℤ◌, int_lt, List, [], ◌∷◌, ◌++◌, length,
-  Option, Some, None, Result, Ok, Err, nat_lt, if◌then◌else◌}
+use Rattle.std.specs.Prelude.{ℕ, ◌+◌, ◌-◌, ◌^◌, ◌==◌, ℤ, pos, negsuc, ◌+ℤ◌, int_lt, List, [], ◌∷◌, ◌++◌, length}
+use Rattle.std.specs.Prelude.{Option, Some, None, Result, Ok, Err, nat_lt, if◌then◌else◌}
 use Rattle.std.specs.Ordering.{int_eq}
 use Rattle.words.specs.Reading.{◌>>=◌, map_refusal, map_value, repeated}
 use Rattle.row_types.specs.declared.column.Column.{Column}
@@ -68,7 +68,7 @@ unfoldable pub check_counts : ℕ → List Block → Result (Unit {0}) RowRefusa
 check_counts before [] = Ok tt
 check_counts before (block ∷ blocks) =
     if nat_lt most_rows (before + count_of block) then Err (Limit FileRows (before + count_of block)) else
-        check_counts (before + count_of block) blocks
+    check_counts (before + count_of block) blocks
 
 -- the file has as many rows as the caller says, where that is said
 abbrev pub check_told : Option ℤ → ℕ → Result (Unit {0}) RowRefusal

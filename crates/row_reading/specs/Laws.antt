@@ -14,9 +14,9 @@ use Rattle.avro_container.specs.Format.{IsContainer}
 
 pub record Laws : Type 0 where
   pub container_found : (input : List ℕ) (container : Container)
-    → container_at input ≡ Ok container → IsContainer input container
+      → container_at input ≡ Ok container → IsContainer input container
   pub container_only : (input : List ℕ) (container : Container)
-    → IsContainer input container → length input ≤ most_bytes → container_at input ≡ Ok container
+      → IsContainer input container → length input ≤ most_bytes → container_at input ≡ Ok container
   pub schema_found : (text : List ℕ) (schema : Schema) → schema_of text ≡ Ok schema → IsSchemaText text schema
   pub schema_only : (text : List ℕ) (schema : Schema) → IsSchemaText text schema → schema_of text ≡ Ok schema
   pub values : (schema : Schema) → Agrees (datum_at schema) (Spells schema) items_in

@@ -8,10 +8,10 @@ ghost use Rattle.row_reading.specs.File.{block_rows, blocks_rows, check_counts};
 ghost use Rattle.stored_rows.specs.Rows.{most_rows};
 ghost use Rattle.row_reading.specs.File.{rows_told as rows_in_count};
 
-use stored_rows::RowRefusal;
 use crate::row::{Layout, RowRef, take_row};
 use avro_container::Walk;
 use limits::{FILE_ROWS, Which};
+use stored_rows::RowRefusal;
 
 /// Whether the blocks that are left say together that they have no more rows than a file may have.
 pub fn check_counts(walk: &mut Walk<'_>) -> Result<(), RowRefusal>

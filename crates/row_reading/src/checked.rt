@@ -17,16 +17,15 @@ ghost use Rattle.row_reading.specs.Checked.{IsRest, rest_of_file};
 
 use crate::block::rows_told;
 use crate::checking::{checked_layout, checked_row};
-use stored_rows::{row_id, row_last};
 use crate::law::reading_agrees;
 use crate::opening::open_file;
-use stored_rows::RowRefusal;
 use crate::row::{Layout, RowRef, take_row};
 use avro_container::Walk;
-use schema_tree::Schema;
 use row_types::{CellRef, Columns};
+use schema_tree::Schema;
 use std::alloc::Global;
 use std::marker::Model;
+use stored_rows::{RowRefusal, row_id, row_last};
 
 /// What of a file was not shown.
 #[derive(Drop)]

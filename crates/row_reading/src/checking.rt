@@ -10,14 +10,13 @@ ghost use Rattle.stored_rows.specs.Rows.{most_rows};
 ghost use Rattle.row_reading.specs.Checking.{check_before_rows, check_all_rows, AreRight};
 
 use crate::block::{check_blocks, check_counts};
-use stored_rows::{check_fields, fields_of};
 use crate::plan::plan_of;
-use stored_rows::RowRefusal;
 use crate::row::{Layout, RowRef, nulls};
 use avro_container::Walk;
-use schema_tree::Schema;
 use row_types::Columns;
+use schema_tree::Schema;
 use std::alloc::{AllocError, Global};
+use stored_rows::{RowRefusal, check_fields, fields_of};
 
 /// Checks what comes before the rows of the file, and returns how they are read for these columns.
 pub fn checked_layout<'a>(

@@ -12,15 +12,13 @@ ghost use Rattle.stored_rows.specs.Stored.{IsHeld};
 ghost use Rattle.row_reading.specs.Columns.{column_of_type, with_field, columns_from, checked, file_columns_of};
 ghost use Rattle.row_reading.specs.Fault.{id_of};
 
-use stored_rows::fields_of;
-use stored_rows::{kind_of, nullable};
 use crate::opening::open_file;
-use stored_rows::RowRefusal;
 use avro_container::Walk;
-use schema_tree::{Field, Schema};
 use lists::Copied;
 use row_types::{Column, Columns, ColumnsRefusal};
+use schema_tree::{Field, Schema};
 use std::alloc::Global;
+use stored_rows::{RowRefusal, fields_of, kind_of, nullable};
 
 /// The first id that is the standard's own. Iceberg spec, "Reserved Field IDs".
 const FIRST_RESERVED_ID: i32 = 2_147_483_448;

@@ -6,10 +6,12 @@ ghost use Rattle.schema_tree.specs.declared.schema.Schema.{out-Schema};
 ghost use Rattle.row_types.specs.CellRef.{lent_cell};
 ghost use Rattle.row_reading.specs.Cell.{null_branch, form_of, primitive_at, form_at};
 
-use stored_rows::{Primitive, is_null, nullable, primitive_of};
-use datum_reading::{Cursor, DatumRefusal, pass_sized, take_choice, take_flag, take_int_at, take_long_at, take_text};
+use datum_reading::{
+    Cursor, DatumRefusal, pass_sized, take_choice, take_flag, take_int_at, take_long_at, take_text,
+};
 use row_types::CellRef;
 use schema_tree::Schema;
+use stored_rows::{Primitive, is_null, nullable, primitive_of};
 
 /// How the cells of a type are read.
 #[derive(Clone, Copy)]

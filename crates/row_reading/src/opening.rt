@@ -7,12 +7,12 @@ ghost use Rattle.avro_container.specs.Container.{container_at};
 ghost use Rattle.stored_rows.specs.Refusal.{is_memory, container_refusal, schema_refusal};
 ghost use Rattle.row_reading.specs.File.{schema_in, opened};
 
-use stored_rows::RowRefusal;
 use avro_container::{ContainerRefusal, Meta, Walk, bound_to, open_walk};
 use avro_schema::{SchemaRefusal, read_schema};
-use schema_tree::Schema;
 use limits::Which;
+use schema_tree::Schema;
 use std::alloc::Global;
+use stored_rows::RowRefusal;
 
 /// The file's blocks, to be lent from the first one on, and its schema. The whole framing is
 /// checked before the schema is read. Avro spec, "Object Container Files".

@@ -5,11 +5,11 @@ ghost use Rattle.stored_rows.specs.Field.{row_id_field, last_updated_field, chec
 ghost use Rattle.row_reading.specs.Plan.{IsPlan};
 ghost use Rattle.row_reading.specs.Planning.{aims_from, planned, all_planned};
 
-use stored_rows::{LAST_UPDATED_FIELD, ROW_ID_FIELD, find};
 use crate::form::{Form, form_of};
-use schema_tree::Field;
 use row_types::{Column, Columns};
+use schema_tree::Field;
 use std::alloc::{AllocError, Global};
+use stored_rows::{LAST_UPDATED_FIELD, ROW_ID_FIELD, find};
 
 /// Where the cell of a field goes.
 #[derive(Clone, Copy)]

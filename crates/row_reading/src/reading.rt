@@ -11,10 +11,10 @@ ghost use Rattle.stored_rows.specs.Stored.{StoresRows, ReadsRows, AreRead};
 
 use crate::checked::{CheckedRows, check_file};
 use crate::law::reading_agrees;
-use stored_rows::RowRefusal;
 use lists::List;
 use row_types::{CellRef, Cells, Columns, Row, RowList};
 use std::alloc::{AllocError, Global};
+use stored_rows::RowRefusal;
 
 /// The rows of the file for a table of these columns, in the order of the file, each with its id
 /// and its last change. What the arguments are and which refusal comes: `check_file`.

@@ -16,11 +16,11 @@ ghost use Rattle.row_reading.specs.Checked.{lent_row};
 
 use crate::form::take_cell;
 use crate::plan::{Step, Target};
-use stored_rows::RowRefusal;
 use datum_reading::{Cursor, DatumRefusal, skip};
-use schema_tree::{Field, Schema};
 use row_types::{CellRef, Column};
+use schema_tree::{Field, Schema};
 use std::alloc::{AllocError, Global};
+use stored_rows::RowRefusal;
 
 /// A row as a data file holds it, lent from the bytes of the file.
 #[derive(Drop)]

@@ -1,6 +1,6 @@
 -- Which lists are the columns of a table, and which fault of a list is told.
-use Rattle.std.specs.Prelude.{◌≢◌, ℕ, ◌≤◌, ℤ, pos, ◌≤ℤ◌, int_lt, Bool, ◌||◌, List, [], ◌∷◌, ◌++◌, length, All, Result,
-  Ok, Err, nat_lt, if◌then◌else◌}
+use Rattle.std.specs.Prelude.{◌≢◌, ℕ, ◌≤◌, ℤ, pos, ◌≤ℤ◌, int_lt, Bool, ◌||◌, List, [], ◌∷◌, ◌++◌, length, All, Result}
+use Rattle.std.specs.Prelude.{Ok, Err, nat_lt, if◌then◌else◌}
 use Rattle.std.specs.declared.option.Option.{Option}
 use Rattle.std.specs.declared.option.Option.TheVariants.{None, Some}
 use Rattle.std.specs.List.{AllPairs, list_any}

@@ -5,8 +5,8 @@ use Rattle.std.specs.Bool.{Decides}
 use Rattle.std.specs.List.{list_any}
 use Rattle.std.specs.Ordering.{int_eq}
 use Rattle.std.specs.Str.{bytes_eq}
-use Rattle.std.proofs.Common.{◌≡◌, ◌≢◌, ℕ, suc, ◌<◌, ℤ, ◌≤ℤ◌, Bool, false, List, [], ◌∷◌, ◌++◌, length, get_or, take,
-  refl, ◌∙◌, arith, Ok, append_assoc, append-nil}
+use Rattle.std.proofs.Common.{◌≡◌, ◌≢◌, ℕ, suc, ◌<◌, ℤ, ◌≤ℤ◌, Bool, false, List, [], ◌∷◌, ◌++◌, length, get_or, take}
+use Rattle.std.proofs.Common.{refl, ◌∙◌, arith, Ok, append_assoc, append-nil}
 use Rattle.std.proofs.lemmas.Bool.{or_from, le-ltb, false_from_ne_true}
 use Rattle.std.proofs.lemmas.Bool.Decides.{Decides-int_eq}
 use Rattle.std.proofs.lemmas.Int.{ints}
@@ -40,7 +40,7 @@ none_before eq same key items j d within differ =
     list_any_none (λ x. eq (key x) (key (get_or items j d))) (take j items) (λ i e lt.
     let before : i < j = rw (length-take-le j items (omega arith)) at lt in
     let at : get_or (take j items) i e ≡ get_or items i d =
-        get_or_default (take j items) i e d lt ∙ get_or-take j items i d before in
+    get_or_default (take j items) i e d lt ∙ get_or-take j items i d before in
     rw at (false_from_ne_true _ (λ equal. differ i before ((same _ _).0 equal))))
 
 -- a number that is no smaller isn't below
@@ -54,11 +54,11 @@ columns_accepted list right =
     let ids : first_fault has_wrong_id [] list ≡ None = none_found_from_start has_wrong_id list (λ j d lt.
     or_from _ _ (or_from _ _ (not_below_from _ _ (right.ids j d lt).0) (not_below_from _ _ (right.ids j d lt).1))
     (none_before int_eq Decides-int_eq (λ (column : Column). column.id) list j d lt
-        (λ i before. right.distinct_ids i j d before lt))) in
+    (λ i before. right.distinct_ids i j d before lt))) in
     let names : first_fault has_wrong_name [] list ≡ None = none_found_from_start has_wrong_name list (λ j d lt.
     or_from _ _ (or_from _ _ (le-ltb _ _ (right.names j d lt).0) (le-ltb _ _ (right.names j d lt).1))
     (none_before bytes_eq bytes_eq-Decides (λ (column : Column). column.name) list j d lt
-        (λ i before. right.distinct_names i j d before lt))) in
+    (λ i before. right.distinct_names i j d before lt))) in
     let some : nat_lt (length list) 1 ≡ false = le-ltb _ _ right.some in
     let few : nat_lt 200 (length list) ≡ false = le-ltb _ _ right.few in
     rw (some, few, ids, names) refl

@@ -1,6 +1,6 @@
 -- Which cells fit the columns of a table.
-use Rattle.std.specs.Prelude.{nat_lt, ℕ, ◌^◌, ◌-◌, ℤ, pos, negsuc, int_lt, Bool, true, false, not, ◌&&◌, List, [],
-  ◌∷◌, ◌≡◌}
+use Rattle.std.specs.Prelude.{nat_lt, ℕ, ◌^◌, ◌-◌, ℤ, pos, negsuc, int_lt, Bool, true, false, not, ◌&&◌, List, []}
+use Rattle.std.specs.Prelude.{◌∷◌, ◌≡◌}
 use Rattle.std.specs.List.{list_all}
 use Rattle.row_types.specs.declared.cell.Cell.{Cell}
 use Rattle.row_types.specs.declared.cell.Cell.TheVariants.{Null, Flag, Num, Text, Bytes}

@@ -1,5 +1,6 @@
 -- The value of a row that is written is one of the file's schema.
-use Rattle.std.proofs.Common.{◌≡◌, ℕ, ◌+◌, Bool, true, false, not, List, [], ◌∷◌, ◌++◌, map, Some, refl, sym, ap, ap₂, ◌∙◌}
+use Rattle.std.proofs.Common.{◌≡◌, ℕ, ◌+◌, Bool, true, false, not, List, [], ◌∷◌, ◌++◌, map, Some, refl, sym, ap, ap₂}
+use Rattle.std.proofs.Common.{◌∙◌}
 use Rattle.std.specs.Prelude.{ℤ, pos, Option, None, IfSome, ◌&&◌, nat_lt, codes, if◌then◌else◌}
 use Rattle.row_types.specs.declared.cell.Cell.{Cell}
 use Rattle.row_types.specs.declared.cell.Cell.TheVariants as cells
@@ -20,10 +21,13 @@ use Rattle.datum_tree.specs.declared.datum.Datum.TheOpen as values
 use Rattle.datum_tree.specs.declared.datum.Datum.TheVariants as datums
 use Rattle.datum_tree.specs.Value.{Level, items_in, most_items}
 use Rattle.datum_tree.specs.Fits.{Test, fits_each, fits_level, fits_of, field_test, fits_schema, field_fits, fits}
-use Rattle.datum_tree.specs.Counts.{counts-Null, counts-Flag, counts-Num, counts-Raw, counts-Str, counts-Branch, counts-Rec}
+use Rattle.datum_tree.specs.Counts.{counts-Null, counts-Flag, counts-Num, counts-Raw, counts-Str, counts-Branch}
+use Rattle.datum_tree.specs.Counts.{counts-Rec}
 use Rattle.datum_tree.specs.Sums.{each, each_nil, each_cons}
 use Rattle.stored_rows.specs.Field.{row_id_field, last_updated_field}
-use Rattle.row_writing.specs.Writing.{row_id_name, last_updated_name, field_of, written_type, optional_type, file_schema, column_field, lineage_fields, are_plain_names, cell_datum, optional_datum, cell_data, number_datum, lineage_data, row_datum}
+use Rattle.row_writing.specs.Writing.{row_id_name, last_updated_name, field_of, written_type, optional_type}
+use Rattle.row_writing.specs.Writing.{file_schema, column_field, lineage_fields, are_plain_names, cell_datum}
+use Rattle.row_writing.specs.Writing.{optional_datum, cell_data, number_datum, lineage_data, row_datum}
 use Rattle.row_writing.proofs.WrittenSchema.{written_level, rolls_written}
 use Rattle.row_writing.proofs.WrittenRows.{both_true, cell_level, out_cell, out_null, out_branch, out_record}
 

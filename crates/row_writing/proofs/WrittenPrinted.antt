@@ -1,5 +1,6 @@
 -- The text of the schema of a file that is written is read as the schema.
-use Rattle.std.proofs.Common.{◌≡◌, ℕ, suc, ◌+◌, ◌*◌, ◌≤◌, max, Bool, true, false, List, [], ◌∷◌, ◌++◌, length, map, refl, sym, ap, ap₂, ◌∙◌, arith}
+use Rattle.std.proofs.Common.{◌≡◌, ℕ, suc, ◌+◌, ◌*◌, ◌≤◌, max, Bool, true, false, List, [], ◌∷◌, ◌++◌, length, map}
+use Rattle.std.proofs.Common.{refl, sym, ap, ap₂, ◌∙◌, arith}
 use Rattle.std.specs.Prelude.{◌&&◌, codes, if◌then◌else◌}
 use Rattle.std.specs.List.{list_all, flat_map, sum}
 use Rattle.std.proofs.lemmas.List.{length-map, length-append}
@@ -12,13 +13,17 @@ use Rattle.schema_tree.specs.declared.schema.Schema.{Schema, roll-Schema}
 use Rattle.schema_tree.specs.declared.schema.Schema.TheOpen as layers
 use Rattle.schema_tree.specs.declared.schema.Schema.TheOpen.{Schema-F, Field-F}
 use Rattle.schema_tree.specs.declared.schema.Schema.TheVariants as schemas
-use Rattle.schema_tree.specs.declared.schema.Schema.TheFolds.{fold-Schema, fold-Field, map-Schema, fold-roll-Schema, fold_out-Field}
+use Rattle.schema_tree.specs.declared.schema.Schema.TheFolds.{fold-Schema, fold-Field, map-Schema, fold-roll-Schema}
+use Rattle.schema_tree.specs.declared.schema.Schema.TheFolds.{fold_out-Field}
 use Rattle.schema_tree.specs.declared.schema.Field.{Field, out-Field}
 use Rattle.schema_tree.specs.Tree.{depth, depth_of, size, size_of, number_of_field}
 use Rattle.schema_tree.specs.Measure.{depth_of_fields, size_of_fields}
-use Rattle.avro_schema.specs.Printable.{Spelled, SpelledField, primitive, spelled, spelled_of, spelled_field, schemas_of, levels_of, field_names, field_levels, is_avro_name, are_distinct, IsPrintable}
+use Rattle.avro_schema.specs.Printable.{Spelled, SpelledField, primitive, spelled, spelled_of, spelled_field}
+use Rattle.avro_schema.specs.Printable.{schemas_of, levels_of, field_names, field_levels, is_avro_name, are_distinct}
+use Rattle.avro_schema.specs.Printable.{IsPrintable}
 use Rattle.schema_tree.specs.TreeLaws.{depth-Rec, size-Rec}
-use Rattle.row_writing.specs.Writing.{written_type, optional_type, column_field, lineage_fields, are_plain_names, field_name, file_schema}
+use Rattle.row_writing.specs.Writing.{written_type, optional_type, column_field, lineage_fields, are_plain_names}
+use Rattle.row_writing.specs.Writing.{field_name, file_schema}
 use Rattle.row_writing.proofs.WrittenSchema.{written_level, rolls_written}
 use Rattle.row_writing.proofs.WrittenNames.{written_names, are_named}
 

@@ -1,5 +1,6 @@
 -- The value of a row that is written: it stores the row, and is one of the file's schema.
-use Rattle.std.proofs.Common.{◌≡◌, ℕ, ◌+◌, Bool, true, false, not, List, [], ◌∷◌, ◌++◌, map, get_or, Some, refl, sym, ap, ap₂, ◌∙◌, arith, add-one}
+use Rattle.std.proofs.Common.{◌≡◌, ℕ, ◌+◌, Bool, true, false, not, List, [], ◌∷◌, ◌++◌, map, get_or, Some, refl, sym}
+use Rattle.std.proofs.Common.{ap, ap₂, ◌∙◌, arith, add-one}
 use Rattle.std.specs.Prelude.{◌≢◌, ℤ, pos, ◌≤ℤ◌, Option, None, ◌&&◌, if◌then◌else◌}
 use Rattle.std.specs.List.{All, AllPairs}
 use Rattle.std.proofs.lemmas.Int.{ints}
@@ -17,9 +18,11 @@ use Rattle.datum_tree.specs.declared.datum.Datum.TheVariants as datums
 use Rattle.datum_tree.specs.Value.{Level}
 use Rattle.stored_rows.specs.Field.{is_this, find_from, fields_of, row_id_field, last_updated_field}
 use Rattle.row_types.specs.CellRef.{is_null, number_of}
-use Rattle.stored_rows.specs.Row.{plain_cell, cell_of_level, cell_of, values_of_level, values_of, cell_at, cell_with, stored_row}
+use Rattle.stored_rows.specs.Row.{plain_cell, cell_of_level, cell_of, values_of_level, values_of, cell_at, cell_with}
+use Rattle.stored_rows.specs.Row.{stored_row}
 use Rattle.stored_rows.specs.Stored.{HasNoNull}
-use Rattle.row_writing.specs.Writing.{file_schema, column_field, lineage_fields, are_plain_names, cell_datum, optional_datum, cell_data, number_datum, lineage_data, row_datum, kept}
+use Rattle.row_writing.specs.Writing.{file_schema, column_field, lineage_fields, are_plain_names, cell_datum}
+use Rattle.row_writing.specs.Writing.{optional_datum, cell_data, number_datum, lineage_data, row_datum, kept}
 use Rattle.row_writing.proofs.WrittenSchema.{written_fields, this_id, other_id, first_id, later_ids, no_column}
 
 -- both of two tests are passed

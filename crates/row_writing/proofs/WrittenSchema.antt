@@ -1,5 +1,6 @@
 -- The schema of a file that is written of rows: its fields, their ids and their types. Each column is read from its own field.
-use Rattle.std.proofs.Common.{◌≡◌, ℕ, zero, suc, ◌+◌, Bool, true, false, List, [], ◌∷◌, ◌++◌, map, get_or, Some, inl, inr, refl, sym, ap, ap₂, subst, ◌∙◌, arith}
+use Rattle.std.proofs.Common.{◌≡◌, ℕ, zero, suc, ◌+◌, Bool, true, false, List, [], ◌∷◌, ◌++◌, map, get_or, Some, inl}
+use Rattle.std.proofs.Common.{inr, refl, sym, ap, ap₂, subst, ◌∙◌, arith}
 use Rattle.std.specs.Prelude.{◌≢◌, ℤ, pos, ◌≤ℤ◌, Option, codes, if◌then◌else◌}
 use Rattle.std.specs.List.{All, AllPairs}
 use Rattle.std.specs.Ordering.{int_eq}
@@ -17,9 +18,11 @@ use Rattle.schema_tree.specs.declared.schema.Schema.TheVariants as schemas
 use Rattle.schema_tree.specs.declared.schema.Field.{Field, out-Field}
 use Rattle.schema_tree.specs.declared.schema.Logical.TheVariants.{Plain, Date, TimeMicros, StampMicros, StampMicrosUtc}
 use Rattle.stored_rows.specs.Kind.{Level, is_null, nullable_level, beside_null, holds, is_allowed_as, is_allowed}
-use Rattle.stored_rows.specs.Field.{Found, is_this, find_from, find, fields_of, fields_of_level, row_id_field, last_updated_field}
+use Rattle.stored_rows.specs.Field.{Found, is_this, find_from, find, fields_of, fields_of_level, row_id_field}
+use Rattle.stored_rows.specs.Field.{last_updated_field}
 use Rattle.stored_rows.specs.Stored.{IsThere, HoldsLongs, AreReadable}
-use Rattle.row_writing.specs.Writing.{written_type, optional_type, file_schema, column_field, lineage_fields, are_plain_names}
+use Rattle.row_writing.specs.Writing.{written_type, optional_type, file_schema, column_field, lineage_fields}
+use Rattle.row_writing.specs.Writing.{are_plain_names}
 
 -- ---- its levels
 

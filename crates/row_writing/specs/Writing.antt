@@ -1,7 +1,7 @@
 -- The data file that is written of rows.
 -- Iceberg spec, "Appendix A: Format-specific Requirements", "Avro"; Avro 1.11, "Object Container Files".
-use Rattle.std.specs.Prelude.{ℕ, zero, suc, ℤ, pos, Bool, true, false, not, ◌&&◌, List, [], ◌∷◌, ◌++◌, length, map,
-  take, drop, Option, Some, None, Result, Ok, Err, nat_lt, codes, if◌then◌else◌}
+use Rattle.std.specs.Prelude.{ℕ, zero, suc, ℤ, pos, Bool, true, false, not, ◌&&◌, List, [], ◌∷◌, ◌++◌, length, map}
+use Rattle.std.specs.Prelude.{take, drop, Option, Some, None, Result, Ok, Err, nat_lt, codes, if◌then◌else◌}
 use Rattle.std.specs.Fmt.{signed_decimal}
 use Rattle.std.specs.List.{flat_map, list_all}
 use Rattle.std.specs.Str.{bytes_eq}
@@ -74,14 +74,14 @@ field_name false column = codes "f" ++ signed_decimal column.id
 abbrev pub column_field : Bool → Column → Field
 column_field plain column =
     field_of (field_name plain column) column.id
-        (if column.required then written_type column.kind else optional_type (written_type column.kind))
+    (if column.required then written_type column.kind else optional_type (written_type column.kind))
 
 -- the fields of the lineage columns, where they are written
 abbrev pub lineage_fields : Bool → List Field
 lineage_fields false = []
 lineage_fields true =
     field_of row_id_name row_id_field (optional_type (schemas.Long Plain)) ∷ field_of last_updated_name
-        last_updated_field (optional_type (schemas.Long Plain)) ∷ []
+    last_updated_field (optional_type (schemas.Long Plain)) ∷ []
 
 -- the schema of a file of rows
 abbrev pub file_schema : List Column → Bool → Schema
@@ -149,7 +149,7 @@ blocks_of zero columns lineage rows = []
 blocks_of (suc tries) columns lineage [] = []
 blocks_of (suc tries) columns lineage (row ∷ rows) =
     block_of columns lineage (take block_size (row ∷ rows)) ∷ blocks_of tries columns lineage
-        (drop block_size (row ∷ rows))
+    (drop block_size (row ∷ rows))
 
 -- the container of a file of rows
 abbrev pub file_container : List Column → List ℕ → Bool → List StoredRow → Container

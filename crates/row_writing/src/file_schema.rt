@@ -6,12 +6,12 @@ ghost use Rattle.row_types.specs.declared.column.Kind.TheVariants.{Long};
 ghost use Rattle.avro_schema.specs.Printable.{begins_name as begins, goes_on_name as goes_on, is_avro_name as avro_name};
 ghost use Rattle.row_writing.specs.Writing.{written_type as type_of, optional_type as type_beside_null, field_of as field_with, field_name as name_of, column_field as field_of_column, is_plain_name as plain_name, are_plain_names as plain_names, lineage_fields, row_id_name, last_updated_name, file_schema as schema_of_file};
 
-use stored_rows::{LAST_UPDATED_FIELD, ROW_ID_FIELD};
-use schema_tree::{Field, Logical, Schema};
 use avro_wire::Text;
 use lists::{Copied, List};
 use row_types::{Column, Kind};
+use schema_tree::{Field, Logical, Schema};
 use std::alloc::{AllocError, Global};
+use stored_rows::{LAST_UPDATED_FIELD, ROW_ID_FIELD};
 
 /// The name of the field of row ids. Iceberg spec, "Reserved Field IDs".
 const ROW_ID_NAME: &str = "_row_id";

@@ -15,17 +15,17 @@ ghost use Rattle.row_writing.specs.Writing.{file_schema as schema_of_file, block
 ghost use Rattle.row_writing.specs.Written.{row_text, IsEncodedRow, IsPrinted};
 
 use crate::file_schema::file_schema;
-use stored_rows::RowRefusal;
 use crate::row_value::row_value;
 use avro_container::{Block, Blocks, Container, Meta, write};
-use datum_writing::encode;
 use avro_schema::{print_schema, reading_agrees};
-use schema_tree::Schema;
 use avro_wire::{Bytes, Text};
+use datum_writing::encode;
 use limits::{FILE_ROWS, OBJECT, Which};
 use row_types::{Column, Columns, StoredRow, StoredRows};
+use schema_tree::Schema;
 use sqlite_items::Items;
 use std::alloc::{AllocError, Global};
+use stored_rows::RowRefusal;
 
 /// The most rows of a block.
 const BLOCK_ROWS: usize = 1_000;

@@ -3,9 +3,10 @@ use Rattle.std.proofs.Common.{◌≡◌, ℕ, ℤ, Bool, List, [], ◌∷◌, ma
 use Rattle.schema_tree.specs.declared.schema.Logical.{Logical}
 use Rattle.schema_tree.specs.declared.schema.Schema.{Schema}
 use Rattle.schema_tree.specs.declared.schema.Schema.TheVariants as schemas
-use Rattle.schema_tree.specs.declared.schema.Schema.TheVariants.{rolls-Null, rolls-Boolean, rolls-Int, rolls-Long,
-  rolls-Float, rolls-Double, rolls-Raw, rolls-Str, rolls-Fixed, rolls-Enum, rolls-Rec, rolls-Array, rolls-Map,
-  rolls-Union}
+use Rattle.schema_tree.specs.declared.schema.Schema.TheVariants.{rolls-Null, rolls-Boolean, rolls-Int, rolls-Long}
+use Rattle.schema_tree.specs.declared.schema.Schema.TheVariants.{rolls-Float, rolls-Double, rolls-Raw, rolls-Str}
+use Rattle.schema_tree.specs.declared.schema.Schema.TheVariants.{rolls-Fixed, rolls-Enum, rolls-Rec, rolls-Array}
+use Rattle.schema_tree.specs.declared.schema.Schema.TheVariants.{rolls-Map, rolls-Union}
 use Rattle.schema_tree.specs.declared.schema.Schema.TheOpen as open_schema
 use Rattle.schema_tree.specs.declared.schema.Schema.TheOpen.{Schema-F, Field-F}
 use Rattle.schema_tree.specs.declared.schema.Schema.TheFolds.{fold-Schema, fold-Field, fold-roll-Schema, fold_out-Field}
@@ -56,28 +57,28 @@ module _ {A B : Type 0} (step : Schema-F A B → A) (field : Field-F A B → B) 
 
   pub fold_rec : (name : List ℕ) (fields : List Field)
       → fold-Schema A B step field (schemas.Rec name fields)
-          ≡ step (open_schema.Rec name (map (fold-Field A B step field) fields))
+      ≡ step (open_schema.Rec name (map (fold-Field A B step field) fields))
   fold_rec name fields =
       ap (fold-Schema A B step field) (sym (rolls-Rec name fields))
       ∙ fold-roll-Schema A B step field (open_schema.Rec name fields)
 
   pub fold_array : (items : Schema) (element_id : Option ℤ) (keyed : Bool)
       → fold-Schema A B step field (schemas.Array items element_id keyed)
-          ≡ step (open_schema.Array (fold-Schema A B step field items) element_id keyed)
+      ≡ step (open_schema.Array (fold-Schema A B step field items) element_id keyed)
   fold_array items element_id keyed =
       ap (fold-Schema A B step field) (sym (rolls-Array items element_id keyed))
       ∙ fold-roll-Schema A B step field (open_schema.Array items element_id keyed)
 
   pub fold_map : (values : Schema) (key_id : Option ℤ) (value_id : Option ℤ)
       → fold-Schema A B step field (schemas.Map values key_id value_id)
-          ≡ step (open_schema.Map (fold-Schema A B step field values) key_id value_id)
+      ≡ step (open_schema.Map (fold-Schema A B step field values) key_id value_id)
   fold_map values key_id value_id =
       ap (fold-Schema A B step field) (sym (rolls-Map values key_id value_id))
       ∙ fold-roll-Schema A B step field (open_schema.Map values key_id value_id)
 
   pub fold_union : (branches : List Schema)
       → fold-Schema A B step field (schemas.Union branches)
-          ≡ step (open_schema.Union (map (fold-Schema A B step field) branches))
+      ≡ step (open_schema.Union (map (fold-Schema A B step field) branches))
   fold_union branches =
       ap (fold-Schema A B step field) (sym (rolls-Union branches))
       ∙ fold-roll-Schema A B step field (open_schema.Union branches)

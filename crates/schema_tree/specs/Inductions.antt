@@ -3,9 +3,10 @@ use Rattle.std.proofs.Common.{ℕ, ℤ, Bool, List, [], ◌∷◌, map, Option, 
 use Rattle.schema_tree.specs.declared.schema.Logical.{Logical}
 use Rattle.schema_tree.specs.declared.schema.Schema.{Schema}
 use Rattle.schema_tree.specs.declared.schema.Schema.TheVariants as schemas
-use Rattle.schema_tree.specs.declared.schema.Schema.TheVariants.{rolls-Null, rolls-Boolean, rolls-Int, rolls-Long,
-  rolls-Float, rolls-Double, rolls-Raw, rolls-Str, rolls-Fixed, rolls-Enum, rolls-Rec, rolls-Array, rolls-Map,
-  rolls-Union}
+use Rattle.schema_tree.specs.declared.schema.Schema.TheVariants.{rolls-Null, rolls-Boolean, rolls-Int, rolls-Long}
+use Rattle.schema_tree.specs.declared.schema.Schema.TheVariants.{rolls-Float, rolls-Double, rolls-Raw, rolls-Str}
+use Rattle.schema_tree.specs.declared.schema.Schema.TheVariants.{rolls-Fixed, rolls-Enum, rolls-Rec, rolls-Array}
+use Rattle.schema_tree.specs.declared.schema.Schema.TheVariants.{rolls-Map, rolls-Union}
 use Rattle.schema_tree.specs.declared.schema.Schema.TheOpen as open_schema
 use Rattle.schema_tree.specs.declared.schema.Schema.TheOpen.{Schema-F, Field-F}
 use Rattle.schema_tree.specs.declared.schema.Schema.TheFolds.{ind-Schema, map-Schema}
@@ -59,7 +60,7 @@ module _ (P : Schema → Type 0) (cases : Cases P) where
   here (open_schema.Enum name symbols) = subst P (sym (rolls-Enum name symbols)) (cases.enum name symbols)
   here (open_schema.Rec name fields) =
       subst P (sym (rolls-Rec name (map (λ e. e.0) fields)))
-          (cases.rec name (map (λ e. e.0) fields) (each (λ field. P (out-Field field).schema) fields))
+      (cases.rec name (map (λ e. e.0) fields) (each (λ field. P (out-Field field).schema) fields))
   here (open_schema.Array items element_id keyed) =
       subst P (sym (rolls-Array items.0 element_id keyed)) (cases.array items.0 element_id keyed items.1)
   here (open_schema.Map values key_id value_id) =
@@ -71,5 +72,5 @@ module _ (P : Schema → Type 0) (cases : Cases P) where
   pub every : (schema : Schema) → P schema
   every =
       ind-Schema P (λ field. P (out-Field field).schema)
-          (λ x y is. subst (λ layer. P (roll-Schema layer)) is (here y))
-          (λ x y is. subst (λ layer. P layer.schema) is y.schema.1)
+      (λ x y is. subst (λ layer. P (roll-Schema layer)) is (here y))
+      (λ x y is. subst (λ layer. P layer.schema) is y.schema.1)

@@ -4,9 +4,10 @@ use Rattle.std.proofs.lemmas.List.Sums.{sum_by-cons}
 use Rattle.schema_tree.specs.declared.schema.Logical.{Logical}
 use Rattle.schema_tree.specs.declared.schema.Schema.{Schema}
 use Rattle.schema_tree.specs.declared.schema.Schema.TheVariants as schemas
-use Rattle.schema_tree.specs.declared.schema.Schema.TheVariants.{rolls-Null, rolls-Boolean, rolls-Int, rolls-Long,
-  rolls-Float, rolls-Double, rolls-Raw, rolls-Str, rolls-Fixed, rolls-Enum, rolls-Rec, rolls-Array, rolls-Map,
-  rolls-Union}
+use Rattle.schema_tree.specs.declared.schema.Schema.TheVariants.{rolls-Null, rolls-Boolean, rolls-Int, rolls-Long}
+use Rattle.schema_tree.specs.declared.schema.Schema.TheVariants.{rolls-Float, rolls-Double, rolls-Raw, rolls-Str}
+use Rattle.schema_tree.specs.declared.schema.Schema.TheVariants.{rolls-Fixed, rolls-Enum, rolls-Rec, rolls-Array}
+use Rattle.schema_tree.specs.declared.schema.Schema.TheVariants.{rolls-Map, rolls-Union}
 use Rattle.schema_tree.specs.declared.schema.Schema.TheOpen as layers
 use Rattle.schema_tree.specs.declared.schema.Schema.TheFolds.{fold-Field, fold-roll-Schema, fold-roll-Field}
 use Rattle.schema_tree.specs.declared.schema.Field.{Field, roll-Field}
@@ -156,7 +157,7 @@ size_cons : (field : Field) (fields : List Field)
     → size_of_fields (field ∷ fields) ≡ fold-Field ℕ ℕ size_of number_of_field field + size_of_fields fields
 size_cons field fields =
     sum_by-cons (λ (n : ℕ). n) (fold-Field ℕ ℕ size_of number_of_field field)
-        (map (fold-Field ℕ ℕ size_of number_of_field) fields)
+    (map (fold-Field ℕ ℕ size_of number_of_field) fields)
 
 -- the first branch, and those behind it
 pub branches_cons : (branch : Schema) (branches : List Schema)
@@ -176,7 +177,7 @@ module _ (name : List ℕ) (id : Option ℤ) (schema : Schema) where
       → size_of_fields (before ++ field_of name id schema ∷ []) ≡ size_of_fields before + size schema
   size-push [] =
       let last =
-          fold-roll-Field ℕ ℕ size_of number_of_field (record { name = name; id = id; schema = schema }) in
+      fold-roll-Field ℕ ℕ size_of number_of_field (record { name = name; id = id; schema = schema }) in
       omega (arith, size_cons (field_of name id schema) [], last)
   size-push (field ∷ before) =
       let behind = size_cons field (before ++ field_of name id schema ∷ []) in

@@ -1,7 +1,7 @@
 -- Which field of a file's schema holds which column: the first one with the column's id.
 -- Iceberg spec, "Column Projection"; "Reserved Field IDs".
-use Rattle.std.specs.Prelude.{ℕ, ◌+◌, ℤ, pos, Bool, false, not, List, [], ◌∷◌, Option, Some, None, Result, Ok, Err,
-  if◌then◌else◌}
+use Rattle.std.specs.Prelude.{ℕ, ◌+◌, ℤ, pos, Bool, false, not, List, [], ◌∷◌, Option, Some, None, Result, Ok, Err}
+use Rattle.std.specs.Prelude.{if◌then◌else◌}
 use Rattle.std.specs.Ordering.{int_eq}
 use Rattle.words.specs.Reading.{◌>>=◌}
 use Rattle.row_types.specs.declared.column.Column.{Column}
@@ -43,7 +43,7 @@ unfoldable pub find_from : ℕ → ℤ → List Field → Option Found
 find_from place id [] = None
 find_from place id (field ∷ fields) =
     if is_this id (out-Field field).id then Some (place, (out-Field field).schema) else find_from (place + 1) id
-        fields
+    fields
 
 -- the first field with the id
 abbrev pub find : ℤ → List Field → Option Found

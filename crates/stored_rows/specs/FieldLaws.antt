@@ -10,8 +10,8 @@ use Rattle.row_types.specs.declared.column.Kind.TheVariants as kinds
 use Rattle.schema_tree.specs.declared.schema.Field.{Field}
 use Rattle.words.specs.Steps.{bind_then, test_failed}
 use Rattle.stored_rows.specs.Kind.{is_allowed}
-use Rattle.stored_rows.specs.Field.{Found, find, row_id_field, last_updated_field, is_missing, is_wrong,
-  check_missing, check_kind, check_kinds, check_fields}
+use Rattle.stored_rows.specs.Field.{Found, find, row_id_field, last_updated_field, is_missing, is_wrong}
+use Rattle.stored_rows.specs.Field.{check_missing, check_kind, check_kinds, check_fields}
 use Rattle.stored_rows.specs.Stored.{IsThere, HoldsLongs, AreReadable}
 
 -- ---- one field
@@ -66,9 +66,9 @@ each_there fields [] done also missing wrong = All-nil (IsIn fields)
 each_there fields (column ∷ columns) done also missing wrong =
     let test = test_failed (is_missing column (find column.id fields)) _ _ done missing in
     bind_then (check_kind column.id column.kind fields) (λ _. check_kinds fields columns) also wrong
-      (λ one right others.
-        let here = there column (find column.id fields) test.0 (kind_right column.id column.kind fields one right) in
-        All-cons (IsIn fields) column columns here (each_there fields columns done also test.1 others))
+    (λ one right others.
+    let here = there column (find column.id fields) test.0 (kind_right column.id column.kind fields one right) in
+    All-cons (IsIn fields) column columns here (each_there fields columns done also test.1 others))
 
 -- no required column is missing
 none_missing : (fields : List Field) (columns : List Column) → All (IsIn fields) columns
@@ -77,7 +77,7 @@ unfolding check_missing
 none_missing fields [] each = refl
 none_missing fields (column ∷ columns) each =
     rw (not_missing column (find column.id fields) (All-head (IsIn fields) column columns each))
-      (none_missing fields columns (All-tail (IsIn fields) column columns each))
+    (none_missing fields columns (All-tail (IsIn fields) column columns each))
 
 -- no column has a wrong type
 none_wrong : (fields : List Field) (columns : List Column) → All (IsIn fields) columns
@@ -86,7 +86,7 @@ unfolding check_kinds
 none_wrong fields [] each = refl
 none_wrong fields (column ∷ columns) each =
     rw (not_wrong column (find column.id fields) (All-head (IsIn fields) column columns each))
-      (none_wrong fields columns (All-tail (IsIn fields) column columns each))
+    (none_wrong fields columns (All-tail (IsIn fields) column columns each))
 
 -- fields that were checked are readable
 pub fields_readable : (fields : List Field) (columns : List Column) (done : Unit {0})
@@ -101,7 +101,7 @@ fields_readable fields columns done checked =
       row_id = longs_held (find row_id_field fields) (kind_right row_id_field kinds.Long fields id id_right);
       last_updated =
           longs_held (find last_updated_field fields)
-              (kind_right last_updated_field kinds.Long fields done last_right);
+          (kind_right last_updated_field kinds.Long fields done last_right);
     })))
 
 -- fields that are readable pass the checks
@@ -111,6 +111,6 @@ unfolding check_fields
 fields_checked fields columns readable =
     let ids = kind_passes row_id_field kinds.Long fields (longs_right (find row_id_field fields) readable.row_id) in
     let changes =
-        kind_passes last_updated_field kinds.Long fields
-            (longs_right (find last_updated_field fields) readable.last_updated) in
+    kind_passes last_updated_field kinds.Long fields
+    (longs_right (find last_updated_field fields) readable.last_updated) in
     rw (none_missing fields columns readable.each, none_wrong fields columns readable.each, ids) changes

@@ -8,8 +8,8 @@ use Rattle.avro_schema.specs.declared.refusal.SchemaRefusal.TheVariants as schem
 use Rattle.datum_reading.specs.declared.refusal.DatumRefusal.{DatumRefusal}
 use Rattle.datum_reading.specs.declared.refusal.DatumRefusal.TheVariants as datums
 use Rattle.stored_rows.specs.declared.refusal.RowRefusal.{RowRefusal}
-use Rattle.stored_rows.specs.declared.refusal.RowRefusal.TheVariants.{Container, Schema, MissingColumn, Kind, Datum,
-  Rest, RecordCount, IdsSpent, Limit, Memory}
+use Rattle.stored_rows.specs.declared.refusal.RowRefusal.TheVariants.{Container, Schema, MissingColumn, Kind, Datum}
+use Rattle.stored_rows.specs.declared.refusal.RowRefusal.TheVariants.{Rest, RecordCount, IdsSpent, Limit, Memory}
 
 -- memory ran out, the one free answer
 abbrev pub is_memory : RowRefusal → Bool

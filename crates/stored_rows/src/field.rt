@@ -6,8 +6,8 @@ ghost use Rattle.stored_rows.specs.Field.{fields_of, is_this, find, is_missing, 
 
 use crate::kind::is_allowed;
 use crate::refusal::RowRefusal;
-use schema_tree::{Field, Schema};
 use row_types::{Column, Kind};
+use schema_tree::{Field, Schema};
 
 /// The id of the column of row ids. Iceberg spec, "Reserved Field IDs".
 pub const ROW_ID_FIELD: i32 = 2_147_483_540;

@@ -5,8 +5,8 @@ ghost use Rattle.std.specs.declared.option.Option.TheVariants.{None, Some};
 ghost use Rattle.schema_tree.specs.declared.schema.Schema.{out-Schema};
 ghost use Rattle.stored_rows.specs.Kind.{nullable, beside_null, is_null, primitive_of, is_read_from, holds, is_allowed, int_kind, long_kind, kind_of};
 
-use schema_tree::{Logical, Schema};
 use row_types::Kind;
+use schema_tree::{Logical, Schema};
 
 /// A primitive type of cells. Avro spec, "Primitive Types".
 #[derive(Clone, Copy, PartialEq, Eq)]

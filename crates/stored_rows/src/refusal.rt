@@ -4,8 +4,8 @@ ghost use Rattle.std.specs.Prelude.{◌≡◌};
 ghost use Rattle.stored_rows.specs.declared.refusal.RowRefusal.TheVariants.{Memory};
 
 use avro_container::ContainerRefusal;
-use datum_reading::DatumRefusal;
 use avro_schema::SchemaRefusal;
+use datum_reading::DatumRefusal;
 use limits::Which;
 use std::alloc::{AllocError, AllocFailed};
 

@@ -1,8 +1,8 @@
 -- Bytes at a place of an input, one part behind the other.
-use Rattle.std.proofs.Common.{◌≡◌, ℕ, ◌+◌, ◌-◌, ◌<◌, ◌≤◌, List, [], ◌++◌, length, drop, slice_range, refl, sym, ap,
-  ◌∙◌, append_assoc, arith}
-use Rattle.std.proofs.lemmas.List.{length-drop, length-append, length-take-le, take-append-drop, drop-drop, drop_at,
-  take_at}
+use Rattle.std.proofs.Common.{◌≡◌, ℕ, ◌+◌, ◌-◌, ◌<◌, ◌≤◌, List, [], ◌++◌, length, drop, slice_range, refl, sym, ap}
+use Rattle.std.proofs.Common.{◌∙◌, append_assoc, arith}
+use Rattle.std.proofs.lemmas.List.{length-drop, length-append, length-take-le, take-append-drop, drop-drop, drop_at}
+use Rattle.std.proofs.lemmas.List.{take_at}
 use Rattle.words.specs.Grammar.{Joined}
 
 -- the input has the bytes from the place on, and the other place is behind them
@@ -59,7 +59,7 @@ pub stand_then : (input : List ℕ) (place middle after : ℕ) (front back : Lis
     → Stand input place middle front → Stand input middle after back → Stand input place after (front ++ back)
 stand_then input place middle after front back first second =
     let from_there : drop middle input ≡ first.rest =
-        ap (λ (n : ℕ). drop n input) first.ends ∙ behind_is input place front first.rest first.parts in
+    ap (λ (n : ℕ). drop n input) first.ends ∙ behind_is input place front first.rest first.parts in
     let behind : first.rest ≡ back ++ second.rest = sym from_there ∙ second.parts in
     record {
       rest = second.rest;
@@ -116,9 +116,10 @@ pub took_moves : {P : List ℕ → Type 0} (input : List ℕ) (place after : ℕ
     → (place < after) × (after ≤ length input)
 took_moves input place after some took =
     let here = some took.bytes took.such in
-    let whole = ap length took.stand.parts in
-    (omega (arith, took.stand.ends),
-      omega (arith, took.stand.ends, length-drop place input, whole, length-append took.bytes took.stand.rest))
+    let whole = ap length took.stand.parts in (
+      omega (arith, took.stand.ends),
+      omega (arith, took.stand.ends, length-drop place input, whole, length-append took.bytes took.stand.rest),
+    )
 
 -- no bytes
 pub took_nothing : (input : List ℕ) (place : ℕ) → Took input place place (λ bytes. bytes ≡ [])

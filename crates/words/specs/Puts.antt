@@ -1,6 +1,6 @@
 -- Texts of items that a loop puts one behind the other.
-use Rattle.std.proofs.Common.{◌≡◌, ℕ, ◌+◌, ◌<◌, ◌≤◌, List, [], ◌∷◌, ◌++◌, length, take, All, sym, ap, subst, ◌∙◌,
-  append_assoc}
+use Rattle.std.proofs.Common.{◌≡◌, ℕ, ◌+◌, ◌<◌, ◌≤◌, List, [], ◌∷◌, ◌++◌, length, take, All, sym, ap, subst, ◌∙◌}
+use Rattle.std.proofs.Common.{append_assoc}
 use Rattle.std.specs.Prelude.{slice_index_or}
 use Rattle.std.specs.List.{flat_map}
 use Rattle.std.proofs.lemmas.Grind.{flat_map-append}
@@ -26,12 +26,12 @@ pub next_put : {A : Type 0} (text : A → List ℕ) (Such : A → Type 0) (items
 next_put text Such items i old between new item lt is put more such =
     let before = flat_map text (take i items) in
     let longer : take (i + 1) items ≡ take i items ++ item ∷ [] =
-        take_more items i item lt ∙ ap (λ x. take i items ++ x ∷ []) (sym is) in
+    take_more items i item lt ∙ ap (λ x. take i items ++ x ∷ []) (sym is) in
     let texts : flat_map text (take (i + 1) items) ≡ flat_map text (take i items) ++ text item =
-        ap (flat_map text) longer ∙ flat_map-append text (take i items) (item ∷ [])
-        ∙ ap (λ (x : List ℕ). before ++ x) (append-nil (text item)) in
+    ap (flat_map text) longer ∙ flat_map-append text (take i items) (item ∷ [])
+    ∙ ap (λ (x : List ℕ). before ++ x) (append-nil (text item)) in
     let behind : between ++ text item ≡ old ++ (before ++ text item) =
-        ap (λ (x : List ℕ). x ++ text item) put.so_far ∙ append_assoc old before (text item) in
+    ap (λ (x : List ℕ). x ++ text item) put.so_far ∙ append_assoc old before (text item) in
     record {
       so_far = more ∙ behind ∙ ap (λ (x : List ℕ). old ++ x) (sym texts);
       each = All-more Such items i item lt put.each (subst Such is such);

@@ -1,6 +1,6 @@
 -- What the steps of a reader returned, of a reader that read or that refused.
-use Rattle.std.proofs.Common.{◌≡◌, Bool, true, false, cond, if◌then◌else◌, ◌⊎◌, inl, inr, Result, Ok, Err, refl, ap,
-  ◌∙◌}
+use Rattle.std.proofs.Common.{◌≡◌, Bool, true, false, cond, if◌then◌else◌, ◌⊎◌, inl, inr, Result, Ok, Err, refl, ap}
+use Rattle.std.proofs.Common.{◌∙◌}
 use Rattle.words.specs.Reading.{◌>>=◌, map_refusal, map_value}
 
 -- it is read

@@ -10,7 +10,8 @@ use Rattle.avro_schema.specs.Parts.{schema_below}
 use Rattle.avro_schema.specs.Reading.{Reader}
 use Rattle.avro_schema.specs.Refusal.{is_memory}
 use Rattle.avro_schema.proofs.PartLaws.{below_layer, below_none, layer_array}
-use Rattle.avro_schema.proofs.ItemLaws.{under_gives, under_refuses, fields_on, fields_fail, fields_end, branches_on, branches_fail, branches_end}
+use Rattle.avro_schema.proofs.ItemLaws.{under_gives, under_refuses, fields_on, fields_fail, fields_end, branches_on}
+use Rattle.avro_schema.proofs.ItemLaws.{branches_fail, branches_end}
 use Rattle.avro_schema.proofs.reading.+read.Goals as goal
 
 pub branches_of-returns-in_err-branch : goal.branches_of-returns-in_err-branch

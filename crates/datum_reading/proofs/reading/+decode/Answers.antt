@@ -16,29 +16,29 @@ pub read_array-returns-in_err-head-clause-exact : goal.read_array-returns-in_err
 read_array-returns-in_err-head-clause-exact t c =
     let p = err_from_is_err_and c.from_residual.result c.from_residual.ensures.1 in
     rw (p.1, p.2) (refused_for_certain (is_memory c.in_err-head.field-0.0) (ap (map_value _)
-        (head_fails (datum_at c.args.schema.now) (length c.args.input.now + 1) c.loop.counter c.loop.items c.args.input.now c.loop.at
-        c.in_err-head.field-0.0 _ c.loop-test.true c.in_err-head.ensures.exact c.loop.invariant.so_far)))
+    (head_fails (datum_at c.args.schema.now) (length c.args.input.now + 1) c.loop.counter c.loop.items c.args.input.now c.loop.at
+    c.in_err-head.field-0.0 _ c.loop-test.true c.in_err-head.ensures.exact c.loop.invariant.so_far)))
 
 pub read_array-returns-then-head-eq0-clause-exact : goal.read_array-returns-then-head-eq0-clause-exact
 read_array-returns-then-head-eq0-clause-exact t c =
     ap (map_value _)
-        (blocks_end (datum_at c.args.schema.now) (length c.args.input.now + 1) c.loop.counter c.loop.items c.args.input.now c.loop.at c.in_ok-head.head _ c.loop-test.true c.in_ok-head.ensures.exact c.if-head-eq0.true c.loop.invariant.so_far)
+    (blocks_end (datum_at c.args.schema.now) (length c.args.input.now + 1) c.loop.counter c.loop.items c.args.input.now c.loop.at c.in_ok-head.head _ c.loop-test.true c.in_ok-head.ensures.exact c.if-head-eq0.true c.loop.invariant.so_far)
 
 pub read_array-returns-in_err-after-clause-exact : goal.read_array-returns-in_err-after-clause-exact
 read_array-returns-in_err-after-clause-exact t c =
     let p = err_from_is_err_and c.from_residual-in_err-after.result c.from_residual-in_err-after.ensures.1 in
     rw (p.1, p.2) (refused_so (is_memory c.in_err-after.field-0.0) (λ e. ap (map_value _)
-        (items_fail (datum_at c.args.schema.now) (length c.args.input.now + 1) c.loop.counter c.loop.items c.args.input.now c.loop.at
-        c.in_ok-head.head c.in_err-after.field-0.0 _ c.loop-test.true c.in_ok-head.ensures.exact c.if-head-eq0.false e c.loop.invariant.so_far))
-        c.in_err-after.ensures.exact)
+    (items_fail (datum_at c.args.schema.now) (length c.args.input.now + 1) c.loop.counter c.loop.items c.args.input.now c.loop.at
+    c.in_ok-head.head c.in_err-after.field-0.0 _ c.loop-test.true c.in_ok-head.ensures.exact c.if-head-eq0.false e c.loop.invariant.so_far))
+    c.in_err-after.ensures.exact)
 
 pub read_array-returns-in_err-check_size-clause-exact : goal.read_array-returns-in_err-check_size-clause-exact
 read_array-returns-in_err-check_size-clause-exact t c =
     let p = err_from_is_err_and c.from_residual-in_err-check_size.result c.from_residual-in_err-check_size.ensures.1 in
     rw (p.1, p.2) (refused_for_certain (is_memory c.in_err-check_size.field-0.0) (ap (map_value _)
-        (size_fails (datum_at c.args.schema.now) (length c.args.input.now + 1) c.loop.counter c.loop.items c.read_items.new.items c.args.input.now
-        c.loop.at c.in_ok-head.head c.in_ok-after.after c.in_err-check_size.field-0.0 _ c.loop-test.true c.in_ok-head.ensures.exact
-        c.if-head-eq0.false c.in_ok-after.ensures.exact c.in_err-check_size.ensures c.loop.invariant.so_far)))
+    (size_fails (datum_at c.args.schema.now) (length c.args.input.now + 1) c.loop.counter c.loop.items c.read_items.new.items c.args.input.now
+    c.loop.at c.in_ok-head.head c.in_ok-after.after c.in_err-check_size.field-0.0 _ c.loop-test.true c.in_ok-head.ensures.exact
+    c.if-head-eq0.false c.in_ok-after.ensures.exact c.in_err-check_size.ensures c.loop.invariant.so_far)))
 
 pub read_array-loop-preserved : goal.read_array-loop-preserved
 read_array-loop-preserved t c = record {
@@ -46,8 +46,8 @@ read_array-loop-preserved t c = record {
   within = omega (arith, c.in_ok-after.ensures.within);
   so_far =
       blocks_on (datum_at c.args.schema.now) (length c.args.input.now + 1) c.loop.counter c.loop.items c.read_items.new.items c.args.input.now c.loop.at
-          c.in_ok-head.head c.in_ok-after.after _ c.loop-test.true c.in_ok-head.ensures.exact c.if-head-eq0.false c.in_ok-after.ensures.exact
-          c.in_ok-check_size.ensures c.loop.invariant.so_far;
+      c.in_ok-head.head c.in_ok-after.after _ c.loop-test.true c.in_ok-head.ensures.exact c.if-head-eq0.false c.in_ok-after.ensures.exact
+      c.in_ok-check_size.ensures c.loop.invariant.so_far;
 }
 
 pub read_array-returns-clause-exact : goal.read_array-returns-clause-exact
@@ -76,29 +76,29 @@ pub read_map-returns-in_err-head-clause-exact : goal.read_map-returns-in_err-hea
 read_map-returns-in_err-head-clause-exact t c =
     let p = err_from_is_err_and c.from_residual.result c.from_residual.ensures.1 in
     rw (p.1, p.2) (refused_for_certain (is_memory c.in_err-head.field-0.0) (ap (map_value _)
-        (head_fails (pair_at (datum_at c.args.schema.now)) (length c.args.input.now + 1) c.loop.counter c.loop.pairs c.args.input.now c.loop.at
-        c.in_err-head.field-0.0 _ c.loop-test.true c.in_err-head.ensures.exact c.loop.invariant.so_far)))
+    (head_fails (pair_at (datum_at c.args.schema.now)) (length c.args.input.now + 1) c.loop.counter c.loop.pairs c.args.input.now c.loop.at
+    c.in_err-head.field-0.0 _ c.loop-test.true c.in_err-head.ensures.exact c.loop.invariant.so_far)))
 
 pub read_map-returns-then-head-eq0-clause-exact : goal.read_map-returns-then-head-eq0-clause-exact
 read_map-returns-then-head-eq0-clause-exact t c =
     ap (map_value _)
-        (blocks_end (pair_at (datum_at c.args.schema.now)) (length c.args.input.now + 1) c.loop.counter c.loop.pairs c.args.input.now c.loop.at c.in_ok-head.head _ c.loop-test.true c.in_ok-head.ensures.exact c.if-head-eq0.true c.loop.invariant.so_far)
+    (blocks_end (pair_at (datum_at c.args.schema.now)) (length c.args.input.now + 1) c.loop.counter c.loop.pairs c.args.input.now c.loop.at c.in_ok-head.head _ c.loop-test.true c.in_ok-head.ensures.exact c.if-head-eq0.true c.loop.invariant.so_far)
 
 pub read_map-returns-in_err-after-clause-exact : goal.read_map-returns-in_err-after-clause-exact
 read_map-returns-in_err-after-clause-exact t c =
     let p = err_from_is_err_and c.from_residual-in_err-after.result c.from_residual-in_err-after.ensures.1 in
     rw (p.1, p.2) (refused_so (is_memory c.in_err-after.field-0.0) (λ e. ap (map_value _)
-        (items_fail (pair_at (datum_at c.args.schema.now)) (length c.args.input.now + 1) c.loop.counter c.loop.pairs c.args.input.now c.loop.at
-        c.in_ok-head.head c.in_err-after.field-0.0 _ c.loop-test.true c.in_ok-head.ensures.exact c.if-head-eq0.false e c.loop.invariant.so_far))
-        c.in_err-after.ensures.exact)
+    (items_fail (pair_at (datum_at c.args.schema.now)) (length c.args.input.now + 1) c.loop.counter c.loop.pairs c.args.input.now c.loop.at
+    c.in_ok-head.head c.in_err-after.field-0.0 _ c.loop-test.true c.in_ok-head.ensures.exact c.if-head-eq0.false e c.loop.invariant.so_far))
+    c.in_err-after.ensures.exact)
 
 pub read_map-returns-in_err-check_size-clause-exact : goal.read_map-returns-in_err-check_size-clause-exact
 read_map-returns-in_err-check_size-clause-exact t c =
     let p = err_from_is_err_and c.from_residual-in_err-check_size.result c.from_residual-in_err-check_size.ensures.1 in
     rw (p.1, p.2) (refused_for_certain (is_memory c.in_err-check_size.field-0.0) (ap (map_value _)
-        (size_fails (pair_at (datum_at c.args.schema.now)) (length c.args.input.now + 1) c.loop.counter c.loop.pairs c.read_pairs.new.pairs
-        c.args.input.now c.loop.at c.in_ok-head.head c.in_ok-after.after c.in_err-check_size.field-0.0 _ c.loop-test.true c.in_ok-head.ensures.exact
-        c.if-head-eq0.false c.in_ok-after.ensures.exact c.in_err-check_size.ensures c.loop.invariant.so_far)))
+    (size_fails (pair_at (datum_at c.args.schema.now)) (length c.args.input.now + 1) c.loop.counter c.loop.pairs c.read_pairs.new.pairs
+    c.args.input.now c.loop.at c.in_ok-head.head c.in_ok-after.after c.in_err-check_size.field-0.0 _ c.loop-test.true c.in_ok-head.ensures.exact
+    c.if-head-eq0.false c.in_ok-after.ensures.exact c.in_err-check_size.ensures c.loop.invariant.so_far)))
 
 pub read_map-loop-preserved : goal.read_map-loop-preserved
 read_map-loop-preserved t c = record {
@@ -106,8 +106,8 @@ read_map-loop-preserved t c = record {
   within = omega (arith, c.in_ok-after.ensures.within);
   so_far =
       blocks_on (pair_at (datum_at c.args.schema.now)) (length c.args.input.now + 1) c.loop.counter c.loop.pairs c.read_pairs.new.pairs c.args.input.now
-          c.loop.at c.in_ok-head.head c.in_ok-after.after _ c.loop-test.true c.in_ok-head.ensures.exact c.if-head-eq0.false c.in_ok-after.ensures.exact
-          c.in_ok-check_size.ensures c.loop.invariant.so_far;
+      c.loop.at c.in_ok-head.head c.in_ok-after.after _ c.loop-test.true c.in_ok-head.ensures.exact c.if-head-eq0.false c.in_ok-after.ensures.exact
+      c.in_ok-check_size.ensures c.loop.invariant.so_far;
 }
 
 pub read_map-returns-clause-exact : goal.read_map-returns-clause-exact
@@ -136,9 +136,9 @@ pub read_record-returns-in_err-value-clause-exact : goal.read_record-returns-in_
 read_record-returns-in_err-value-clause-exact t c =
     let p = err_from_is_err_and c.from_residual.result c.from_residual.ensures.1 in
     rw (p.1, p.2) (refused_so (is_memory c.in_err-value.field-0.0) (λ e. ap (map_value _)
-        (field_fails c.as_slice-field-items.result.now c.loop-field.field-index c.field-item.result c.loop-field.values c.args.input.now
-        c.loop-field.at c.in_err-value.field-0.0 _ c.loop-field-test.true c.field-item.is e c.loop-field.invariant.so_far))
-        c.in_err-value.ensures.exact)
+    (field_fails c.as_slice-field-items.result.now c.loop-field.field-index c.field-item.result c.loop-field.values c.args.input.now
+    c.loop-field.at c.in_err-value.field-0.0 _ c.loop-field-test.true c.field-item.is e c.loop-field.invariant.so_far))
+    c.in_err-value.ensures.exact)
 
 pub read_record-loop-field-preserved : goal.read_record-loop-field-preserved
 read_record-loop-field-preserved t c = record {
@@ -146,8 +146,8 @@ read_record-loop-field-preserved t c = record {
   within = omega (arith, c.in_ok-value.ensures.within);
   so_far =
       fields_on c.as_slice-field-items.result.now c.loop-field.field-index c.field-item.result c.loop-field.values c.push.new.self c.args.input.now
-          c.loop-field.at c.in_ok-value.value c.in_ok-value.after _ c.loop-field-test.true c.field-item.is c.in_ok-value.ensures.exact c.in_ok-push.ensures.ok
-          c.loop-field.invariant.so_far;
+      c.loop-field.at c.in_ok-value.value c.in_ok-value.after _ c.loop-field-test.true c.field-item.is c.in_ok-value.ensures.exact c.in_ok-push.ensures.ok
+      c.loop-field.invariant.so_far;
 }
 
 pub read_record-returns-clause-exact : goal.read_record-returns-clause-exact

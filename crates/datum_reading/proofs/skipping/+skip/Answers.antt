@@ -19,44 +19,44 @@ skip_array-returns-in_err-head-clause-exact t c =
 pub skip_array-returns-then-head-eq0-clause-exact : goal.skip_array-returns-then-head-eq0-clause-exact
 skip_array-returns-then-head-eq0-clause-exact t c =
     ap passed
-        (blocks_end (datum_at c.args.schema.now) (length c.args.input.now + 1) c.loop.counter c.loop.invariant.before c.args.input.now c.loop.at c.in_ok-head.head _ c.loop-test.true c.in_ok-head.ensures.exact c.if-head-eq0.true c.loop.invariant.so_far)
+    (blocks_end (datum_at c.args.schema.now) (length c.args.input.now + 1) c.loop.counter c.loop.invariant.before c.args.input.now c.loop.at c.in_ok-head.head _ c.loop-test.true c.in_ok-head.ensures.exact c.if-head-eq0.true c.loop.invariant.so_far)
 
 pub skip_array-returns-in_err-after-clause-exact : goal.skip_array-returns-in_err-after-clause-exact
 skip_array-returns-in_err-after-clause-exact t c =
     let p = err_from_is_err_and c.from_residual-in_err-after.result c.from_residual-in_err-after.ensures.1 in
     let items =
-        passed_err (items_at (datum_at c.args.schema.now) c.in_ok-head.head.count c.loop.invariant.before c.args.input.now c.in_ok-head.head.first)
-            c.in_err-after.field-0.0
-            (items_pass (datum_at c.args.schema.now) c.in_ok-head.head.count c.loop.invariant.before [] c.args.input.now c.in_ok-head.head.first ∙ c.in_err-after.ensures.exact) in
+    passed_err (items_at (datum_at c.args.schema.now) c.in_ok-head.head.count c.loop.invariant.before c.args.input.now c.in_ok-head.head.first)
+    c.in_err-after.field-0.0
+    (items_pass (datum_at c.args.schema.now) c.in_ok-head.head.count c.loop.invariant.before [] c.args.input.now c.in_ok-head.head.first ∙ c.in_err-after.ensures.exact) in
     rw (p.1, p.2) (ap passed (items_fail (datum_at c.args.schema.now) (length c.args.input.now + 1) c.loop.counter c.loop.invariant.before
-        c.args.input.now c.loop.at c.in_ok-head.head c.in_err-after.field-0.0 _ c.loop-test.true c.in_ok-head.ensures.exact c.if-head-eq0.false items
-        c.loop.invariant.so_far))
+    c.args.input.now c.loop.at c.in_ok-head.head c.in_err-after.field-0.0 _ c.loop-test.true c.in_ok-head.ensures.exact c.if-head-eq0.false items
+    c.loop.invariant.so_far))
 
 pub skip_array-returns-in_err-check_size-clause-exact : goal.skip_array-returns-in_err-check_size-clause-exact
 skip_array-returns-in_err-check_size-clause-exact t c =
     let p = err_from_is_err_and c.from_residual-in_err-check_size.result c.from_residual-in_err-check_size.ensures.1 in
     let items =
-        passed_ok (items_at (datum_at c.args.schema.now) c.in_ok-head.head.count c.loop.invariant.before c.args.input.now c.in_ok-head.head.first)
-            c.in_ok-after.after
-            (items_pass (datum_at c.args.schema.now) c.in_ok-head.head.count c.loop.invariant.before [] c.args.input.now c.in_ok-head.head.first ∙ c.in_ok-after.ensures.exact) in
+    passed_ok (items_at (datum_at c.args.schema.now) c.in_ok-head.head.count c.loop.invariant.before c.args.input.now c.in_ok-head.head.first)
+    c.in_ok-after.after
+    (items_pass (datum_at c.args.schema.now) c.in_ok-head.head.count c.loop.invariant.before [] c.args.input.now c.in_ok-head.head.first ∙ c.in_ok-after.ensures.exact) in
     rw (p.1, p.2) (ap passed (size_fails (datum_at c.args.schema.now) (length c.args.input.now + 1) c.loop.counter c.loop.invariant.before items.0
-        c.args.input.now c.loop.at c.in_ok-head.head c.in_ok-after.after c.in_err-check_size.field-0.0 _ c.loop-test.true c.in_ok-head.ensures.exact
-        c.if-head-eq0.false items.1 c.in_err-check_size.ensures c.loop.invariant.so_far))
+    c.args.input.now c.loop.at c.in_ok-head.head c.in_ok-after.after c.in_err-check_size.field-0.0 _ c.loop-test.true c.in_ok-head.ensures.exact
+    c.if-head-eq0.false items.1 c.in_err-check_size.ensures c.loop.invariant.so_far))
 
 pub skip_array-loop-preserved : goal.skip_array-loop-preserved
 skip_array-loop-preserved t c =
     let items =
-        passed_ok (items_at (datum_at c.args.schema.now) c.in_ok-head.head.count c.loop.invariant.before c.args.input.now c.in_ok-head.head.first)
-            c.in_ok-after.after
-            (items_pass (datum_at c.args.schema.now) c.in_ok-head.head.count c.loop.invariant.before [] c.args.input.now c.in_ok-head.head.first ∙ c.in_ok-after.ensures.exact)
-            in record {
+    passed_ok (items_at (datum_at c.args.schema.now) c.in_ok-head.head.count c.loop.invariant.before c.args.input.now c.in_ok-head.head.first)
+    c.in_ok-after.after
+    (items_pass (datum_at c.args.schema.now) c.in_ok-head.head.count c.loop.invariant.before [] c.args.input.now c.in_ok-head.head.first ∙ c.in_ok-after.ensures.exact)
+    in record {
       start = omega (arith, c.in_ok-after.ensures.within, c.in_ok-head.ensures.within);
       within = omega (arith, c.in_ok-after.ensures.within);
       before = items.0;
       so_far =
           blocks_on (datum_at c.args.schema.now) (length c.args.input.now + 1) c.loop.counter c.loop.invariant.before items.0 c.args.input.now c.loop.at
-              c.in_ok-head.head c.in_ok-after.after _ c.loop-test.true c.in_ok-head.ensures.exact c.if-head-eq0.false items.1 c.in_ok-check_size.ensures
-              c.loop.invariant.so_far;
+          c.in_ok-head.head c.in_ok-after.after _ c.loop-test.true c.in_ok-head.ensures.exact c.if-head-eq0.false items.1 c.in_ok-check_size.ensures
+          c.loop.invariant.so_far;
     }
 
 pub skip_array-returns-clause-exact : goal.skip_array-returns-clause-exact
@@ -97,44 +97,44 @@ skip_map-returns-in_err-head-clause-exact t c =
 pub skip_map-returns-then-head-eq0-clause-exact : goal.skip_map-returns-then-head-eq0-clause-exact
 skip_map-returns-then-head-eq0-clause-exact t c =
     ap passed
-        (blocks_end (pair_at (datum_at c.args.schema.now)) (length c.args.input.now + 1) c.loop.counter c.loop.invariant.before c.args.input.now c.loop.at c.in_ok-head.head _ c.loop-test.true c.in_ok-head.ensures.exact c.if-head-eq0.true c.loop.invariant.so_far)
+    (blocks_end (pair_at (datum_at c.args.schema.now)) (length c.args.input.now + 1) c.loop.counter c.loop.invariant.before c.args.input.now c.loop.at c.in_ok-head.head _ c.loop-test.true c.in_ok-head.ensures.exact c.if-head-eq0.true c.loop.invariant.so_far)
 
 pub skip_map-returns-in_err-after-clause-exact : goal.skip_map-returns-in_err-after-clause-exact
 skip_map-returns-in_err-after-clause-exact t c =
     let p = err_from_is_err_and c.from_residual-in_err-after.result c.from_residual-in_err-after.ensures.1 in
     let items =
-        passed_err (items_at (pair_at (datum_at c.args.schema.now)) c.in_ok-head.head.count c.loop.invariant.before c.args.input.now c.in_ok-head.head.first)
-            c.in_err-after.field-0.0
-            (items_pass (pair_at (datum_at c.args.schema.now)) c.in_ok-head.head.count c.loop.invariant.before [] c.args.input.now c.in_ok-head.head.first ∙ c.in_err-after.ensures.exact) in
+    passed_err (items_at (pair_at (datum_at c.args.schema.now)) c.in_ok-head.head.count c.loop.invariant.before c.args.input.now c.in_ok-head.head.first)
+    c.in_err-after.field-0.0
+    (items_pass (pair_at (datum_at c.args.schema.now)) c.in_ok-head.head.count c.loop.invariant.before [] c.args.input.now c.in_ok-head.head.first ∙ c.in_err-after.ensures.exact) in
     rw (p.1, p.2) (ap passed (items_fail (pair_at (datum_at c.args.schema.now)) (length c.args.input.now + 1) c.loop.counter c.loop.invariant.before
-        c.args.input.now c.loop.at c.in_ok-head.head c.in_err-after.field-0.0 _ c.loop-test.true c.in_ok-head.ensures.exact c.if-head-eq0.false items
-        c.loop.invariant.so_far))
+    c.args.input.now c.loop.at c.in_ok-head.head c.in_err-after.field-0.0 _ c.loop-test.true c.in_ok-head.ensures.exact c.if-head-eq0.false items
+    c.loop.invariant.so_far))
 
 pub skip_map-returns-in_err-check_size-clause-exact : goal.skip_map-returns-in_err-check_size-clause-exact
 skip_map-returns-in_err-check_size-clause-exact t c =
     let p = err_from_is_err_and c.from_residual-in_err-check_size.result c.from_residual-in_err-check_size.ensures.1 in
     let items =
-        passed_ok (items_at (pair_at (datum_at c.args.schema.now)) c.in_ok-head.head.count c.loop.invariant.before c.args.input.now c.in_ok-head.head.first)
-            c.in_ok-after.after
-            (items_pass (pair_at (datum_at c.args.schema.now)) c.in_ok-head.head.count c.loop.invariant.before [] c.args.input.now c.in_ok-head.head.first ∙ c.in_ok-after.ensures.exact) in
+    passed_ok (items_at (pair_at (datum_at c.args.schema.now)) c.in_ok-head.head.count c.loop.invariant.before c.args.input.now c.in_ok-head.head.first)
+    c.in_ok-after.after
+    (items_pass (pair_at (datum_at c.args.schema.now)) c.in_ok-head.head.count c.loop.invariant.before [] c.args.input.now c.in_ok-head.head.first ∙ c.in_ok-after.ensures.exact) in
     rw (p.1, p.2) (ap passed (size_fails (pair_at (datum_at c.args.schema.now)) (length c.args.input.now + 1) c.loop.counter c.loop.invariant.before
-        items.0 c.args.input.now c.loop.at c.in_ok-head.head c.in_ok-after.after c.in_err-check_size.field-0.0 _ c.loop-test.true
-        c.in_ok-head.ensures.exact c.if-head-eq0.false items.1 c.in_err-check_size.ensures c.loop.invariant.so_far))
+    items.0 c.args.input.now c.loop.at c.in_ok-head.head c.in_ok-after.after c.in_err-check_size.field-0.0 _ c.loop-test.true
+    c.in_ok-head.ensures.exact c.if-head-eq0.false items.1 c.in_err-check_size.ensures c.loop.invariant.so_far))
 
 pub skip_map-loop-preserved : goal.skip_map-loop-preserved
 skip_map-loop-preserved t c =
     let items =
-        passed_ok (items_at (pair_at (datum_at c.args.schema.now)) c.in_ok-head.head.count c.loop.invariant.before c.args.input.now c.in_ok-head.head.first)
-            c.in_ok-after.after
-            (items_pass (pair_at (datum_at c.args.schema.now)) c.in_ok-head.head.count c.loop.invariant.before [] c.args.input.now c.in_ok-head.head.first ∙ c.in_ok-after.ensures.exact)
-            in record {
+    passed_ok (items_at (pair_at (datum_at c.args.schema.now)) c.in_ok-head.head.count c.loop.invariant.before c.args.input.now c.in_ok-head.head.first)
+    c.in_ok-after.after
+    (items_pass (pair_at (datum_at c.args.schema.now)) c.in_ok-head.head.count c.loop.invariant.before [] c.args.input.now c.in_ok-head.head.first ∙ c.in_ok-after.ensures.exact)
+    in record {
       start = omega (arith, c.in_ok-after.ensures.within, c.in_ok-head.ensures.within);
       within = omega (arith, c.in_ok-after.ensures.within);
       before = items.0;
       so_far =
           blocks_on (pair_at (datum_at c.args.schema.now)) (length c.args.input.now + 1) c.loop.counter c.loop.invariant.before items.0 c.args.input.now
-              c.loop.at c.in_ok-head.head c.in_ok-after.after _ c.loop-test.true c.in_ok-head.ensures.exact c.if-head-eq0.false items.1
-              c.in_ok-check_size.ensures c.loop.invariant.so_far;
+          c.loop.at c.in_ok-head.head c.in_ok-after.after _ c.loop-test.true c.in_ok-head.ensures.exact c.if-head-eq0.false items.1
+          c.in_ok-check_size.ensures c.loop.invariant.so_far;
     }
 
 pub skip_map-returns-clause-exact : goal.skip_map-returns-clause-exact
@@ -176,8 +176,8 @@ skip_fields-loop-field-preserved t c =
       before = c.loop-field.invariant.before ++ field.0 ∷ [];
       so_far =
           fields_on c.as_slice-field-items.result.now c.loop-field.field-index c.field-item.result c.loop-field.invariant.before
-              (c.loop-field.invariant.before ++ field.0 ∷ []) c.args.input.now c.loop-field.at field.0 c.in_ok-at.at _ c.loop-field-test.true c.field-item.is
-              field.1 refl c.loop-field.invariant.so_far;
+          (c.loop-field.invariant.before ++ field.0 ∷ []) c.args.input.now c.loop-field.at field.0 c.in_ok-at.at _ c.loop-field-test.true c.field-item.is
+          field.1 refl c.loop-field.invariant.so_far;
     }
 
 pub skip_fields-returns-clause-exact : goal.skip_fields-returns-clause-exact

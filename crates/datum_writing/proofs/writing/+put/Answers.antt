@@ -1,11 +1,17 @@
 use Rattle.std.proofs.Common.{◌≡◌, ◌∙◌, map, sym, subst, rules}
 use Rattle.std.proofs.lemmas.List.{length-map}
 use Rattle.datum_writing.specs.Canonical.{pair_text, canonical, field_canonical}
-use Rattle.datum_writing.proofs.PutLemmas.{front_then, each_field, each_value, field_put, place_put, branch_put, on_err, on_ok, on_err_then}
+use Rattle.datum_writing.proofs.PutLemmas.{front_then, each_field, each_value, field_put, place_put, branch_put}
+use Rattle.datum_writing.proofs.PutLemmas.{on_err, on_ok, on_err_then}
 use Rattle.std.specs.Str.{IsUtf8}
 use Rattle.datum_writing.specs.Spelled.{IsSpelled, IsSized, PairIsSpelled}
-use Rattle.datum_writing.proofs.SpelledLemmas.{null_spelled, boolean_spelled, int_spelled, long_spelled, float_spelled, double_spelled, fixed_spelled, bytes_spelled_so, string_spelled, enum_spelled}
-use Rattle.datum_writing.proofs.SpelledSteps.{each_spelled_more, each_spelled_field, each_spelled_value, all_spelled, branch_spelled, no_branch_spelled, always_ok, of_schema, item_put, item_spelled, pair_put, pair_spelled, record_at, array_at, map_at, union_at}
+use Rattle.datum_writing.proofs.SpelledLemmas.{null_spelled, boolean_spelled, int_spelled, long_spelled}
+use Rattle.datum_writing.proofs.SpelledLemmas.{float_spelled, double_spelled, fixed_spelled, bytes_spelled_so}
+use Rattle.datum_writing.proofs.SpelledLemmas.{string_spelled, enum_spelled}
+use Rattle.datum_writing.proofs.SpelledSteps.{each_spelled_more, each_spelled_field, each_spelled_value, all_spelled}
+use Rattle.datum_writing.proofs.SpelledSteps.{branch_spelled, no_branch_spelled, always_ok, of_schema, item_put}
+use Rattle.datum_writing.proofs.SpelledSteps.{item_spelled, pair_put, pair_spelled, record_at, array_at, map_at}
+use Rattle.datum_writing.proofs.SpelledSteps.{union_at}
 use Rattle.datum_writing.proofs.writing.+put.Goals as goal
 
 pub put_fields-loop-place-preserved : goal.put_fields-loop-place-preserved
@@ -128,5 +134,5 @@ put_value-returns-in-Some-pairs_of-clause-spelled t c =
 pub put_value-returns-in-Some-branch_of-clause-spelled : goal.put_value-returns-in-Some-branch_of-clause-spelled
 put_value-returns-in-Some-branch_of-clause-spelled t c =
     on_ok c.put_branch.result _ _ (union_at c.args.schema.now c.in-Union.branches c.as_slice-in-Some-branch_of.result.now c.args.datum.now
-        c.in-Some-branch_of.place c.in-Some-branch_of.inside.now c.in-Union.is c.as_slice-in-Some-branch_of.ensures c.in-Some-branch_of.ensures)
-        c.put_branch.ensures.spelled
+    c.in-Some-branch_of.place c.in-Some-branch_of.inside.now c.in-Union.is c.as_slice-in-Some-branch_of.ensures c.in-Some-branch_of.ensures)
+    c.put_branch.ensures.spelled

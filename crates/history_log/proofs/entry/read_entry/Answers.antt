@@ -20,14 +20,14 @@ pub returns-in_err-request-clause-exact : goal.returns-in_err-request-clause-exa
 returns-in_err-request-clause-exact c =
     let p = err_from_is_err_and c.from_residual-in_err-request.result c.from_residual-in_err-request.ensures.1 in
     rw (p.1, p.2) (request_refused c.args.columns.now c.args.text.now (c.in_ok-who.who, c.in_ok-who.seq, c.in_ok-who.next, c.in_ok-who.place)
-        (c.in_ok-named.named, c.in_ok-named.given, c.in_ok-named.place) c.in_err-request.field-0.0 c.in_ok-who.ensures.exact c.in_ok-named.ensures.exact
-        c.in_err-request.ensures.exact)
+    (c.in_ok-named.named, c.in_ok-named.given, c.in_ok-named.place) c.in_err-request.field-0.0 c.in_ok-who.ensures.exact c.in_ok-named.ensures.exact
+    c.in_err-request.ensures.exact)
 
 pub returns-clause-exact : goal.returns-clause-exact
 returns-clause-exact c =
     entry_read c.args.columns.now c.args.text.now (c.in_ok-who.who, c.in_ok-who.seq, c.in_ok-who.next, c.in_ok-who.place)
-        (c.in_ok-named.named, c.in_ok-named.given, c.in_ok-named.place) c.in_ok-request.request c.in_ok-who.ensures.exact c.in_ok-named.ensures.exact
-        c.in_ok-request.ensures.exact
+    (c.in_ok-named.named, c.in_ok-named.given, c.in_ok-named.place) c.in_ok-request.request c.in_ok-who.ensures.exact c.in_ok-named.ensures.exact
+    c.in_ok-request.ensures.exact
 
 pub returns-clause-fits : goal.returns-clause-fits
 returns-clause-fits c = record {

@@ -13,10 +13,12 @@ returns-in_err-path c =
 pub returns-in_err-next : goal.returns-in_err-next
 returns-in_err-next c =
     let p = err_from_is_err_and c.from_residual-in_err-next.result c.from_residual-in_err-next.ensures.1 in
-    record { exact = rw (p.1, p.2)
-        (refused_for_certain (is_memory c.in_err-next.field-0.0)
-        (paths_stopped c.args.text.now c.args.place c.paths.paths c.in_ok-path.path c.paths.at c.in_ok-path.after c.in_err-next.field-0.0
-        c.paths.invariant.so_far c.paths.invariant.within c.in_ok-path.ensures.exact (sym c.in_err-next.ensures.exact))) }
+    record {
+      exact = rw (p.1, p.2)
+          (refused_for_certain (is_memory c.in_err-next.field-0.0)
+          (paths_stopped c.args.text.now c.args.place c.paths.paths c.in_ok-path.path c.paths.at c.in_ok-path.after c.in_err-next.field-0.0
+          c.paths.invariant.so_far c.paths.invariant.within c.in_ok-path.ensures.exact (sym c.in_err-next.ensures.exact)));
+    }
 
 pub returns-in_default : goal.returns-in_default
 returns-in_default c =

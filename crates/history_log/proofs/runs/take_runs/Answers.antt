@@ -7,7 +7,8 @@ use Rattle.pieces.specs.Word.{is_this}
 use Rattle.pieces.specs.Number.{is_absent}
 use Rattle.pieces.specs.WordLaws.{is_this_within}
 use Rattle.history_log.specs.Runs.{run_at}
-use Rattle.history_log.proofs.RunsLemmas.{run_behind, no_runs, runs_begin, runs_on, runs_done, runs_refused, absent_within}
+use Rattle.history_log.proofs.RunsLemmas.{run_behind, no_runs, runs_begin, runs_on, runs_done, runs_refused}
+use Rattle.history_log.proofs.RunsLemmas.{absent_within}
 use Rattle.history_log.proofs.RunsFits.{more_runs}
 use Rattle.history_log.proofs.runs.take_runs.Goals as goal
 

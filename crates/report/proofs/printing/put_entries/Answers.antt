@@ -12,5 +12,5 @@ loop-entry-preserved c =
     let before = string_bytes c.loop-entry.out in
     let line = ap (λ (l : List ℕ). l ++ codes "\n") c.in_ok-put_entry.ensures.text ∙ append_assoc before (entry_text item) (codes "\n") in
     next_put (λ (entry : Entry). lined (entry_text entry)) IsReadBack c.args.entries.now c.loop-entry.entry-index (string_bytes c.args.out.now)
-        before (string_bytes c.push_str.new.self) item c.loop-entry-test.true c.entry-item.is c.loop-entry.invariant
-        (c.in_ok-push_str.ensures.bytes ∙ line) c.in_ok-put_entry.ensures.reads_back
+    before (string_bytes c.push_str.new.self) item c.loop-entry-test.true c.entry-item.is c.loop-entry.invariant
+    (c.in_ok-push_str.ensures.bytes ∙ line) c.in_ok-put_entry.ensures.reads_back

@@ -28,9 +28,9 @@ pub returns-in_err-stage-clause-exact : goal.returns-in_err-stage-clause-exact
 returns-in_err-stage-clause-exact c =
     let p = err_from_is_err_and c.from_residual.result c.from_residual.ensures.1 in
     rw (p.1, p.2)
-        (refused_so (is_memory_of_report c.in_err-stage.field-0.0)
-        (λ h. report_wrong c.loop-at.number c.loop-at.stage c.args.bytes.now c.loop-at.start c.loop-at.at _ c.in_err-stage.field-0.0 c.loop-at-test.true
-        c.if-bytes-at-ne10.false h c.loop-at.invariant.so_far) c.in_err-stage.ensures.exact)
+    (refused_so (is_memory_of_report c.in_err-stage.field-0.0)
+    (λ h. report_wrong c.loop-at.number c.loop-at.stage c.args.bytes.now c.loop-at.start c.loop-at.at _ c.in_err-stage.field-0.0 c.loop-at-test.true
+    c.if-bytes-at-ne10.false h c.loop-at.invariant.so_far) c.in_err-stage.ensures.exact)
 
 pub loop-at-preserved : goal.loop-at-preserved
 loop-at-preserved c = record {

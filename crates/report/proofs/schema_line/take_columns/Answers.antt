@@ -22,9 +22,9 @@ pub returns-in_err-next : goal.returns-in_err-next
 returns-in_err-next c =
     let p = err_from_is_err_and c.from_residual-in_err-next.result c.from_residual-in_err-next.ensures.1 in
     rw (p.1, p.2)
-        (refused_for_certain (is_memory c.in_err-next.field-0.0)
-        (column_stopped c.args.line.now c.loop-list.list.items c.loop-list.at _ c.in_ok-column.column c.in_ok-column.after c.in_err-next.field-0.0
-        c.loop-list.invariant.so_far c.loop-list.invariant.within c.in_ok-column.ensures.exact c.in_err-next.ensures.exact))
+    (refused_for_certain (is_memory c.in_err-next.field-0.0)
+    (column_stopped c.args.line.now c.loop-list.list.items c.loop-list.at _ c.in_ok-column.column c.in_ok-column.after c.in_err-next.field-0.0
+    c.loop-list.invariant.so_far c.loop-list.invariant.within c.in_ok-column.ensures.exact c.in_err-next.ensures.exact))
 
 pub loop-list-preserved : goal.loop-list-preserved
 loop-list-preserved c =

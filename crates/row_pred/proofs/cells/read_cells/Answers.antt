@@ -14,7 +14,7 @@ pub returns-in_err-take_end-clause-exact : goal.returns-in_err-take_end-clause-e
 returns-in_err-take_end-clause-exact c =
     let p = err_from_is_err_and c.from_residual-in_err-take_end.result c.from_residual-in_err-take_end.ensures.1 in
     rw (p.1, p.2) (refused_for_certain (is_memory (of_piece c.in_err-take_end.field-0.0)) (row_stopped c.as_slice.result.now c.args.columns.now c.args.text.now c.in_ok-cells.cells c.in_ok-cells.after c.in_err-take_end.field-0.0 c.as_slice.ensures.all c.in_ok-cells.ensures.exact
-        (sym c.in_err-take_end.ensures.exact)))
+    (sym c.in_err-take_end.ensures.exact)))
 
 pub returns-clause-exact : goal.returns-clause-exact
 returns-clause-exact c = row_whole c.as_slice.result.now c.args.columns.now c.args.text.now c.in_ok-cells.cells c.in_ok-cells.after c.as_slice.ensures.all c.in_ok-cells.ensures.exact (sym c.in_ok-take_end.ensures.exact)

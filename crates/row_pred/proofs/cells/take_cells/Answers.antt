@@ -14,13 +14,13 @@ pub returns-in_err-start-clause-exact : goal.returns-in_err-start-clause-exact
 returns-in_err-start-clause-exact c =
     let p = err_from_is_err_and c.from_residual.result c.from_residual.ensures.1 in
     rw (p.1, p.2) (refused_for_certain (is_memory c.in_err-start.field-0.0) (cells_stopped c.loop-column.cells c.args.columns.now c.column-item.result c.args.text.now c.loop-column.column-index c.loop-column.at c.in_err-start.field-0.0 _ c.loop-column-test.true c.column-item.is
-        (sym c.in_err-start.ensures.exact) c.loop-column.invariant.so_far))
+    (sym c.in_err-start.ensures.exact) c.loop-column.invariant.so_far))
 
 pub returns-in_err-cell-clause-exact : goal.returns-in_err-cell-clause-exact
 returns-in_err-cell-clause-exact c =
     let p = err_from_is_err_and c.from_residual-in_err-cell.result c.from_residual-in_err-cell.ensures.1 in
     rw (p.1, p.2) (refused_so (is_memory c.in_err-cell.field-0.0) (λ h. cells_refused c.loop-column.cells c.args.columns.now c.column-item.result c.args.text.now c.loop-column.column-index c.loop-column.at c.in_ok-start.start c.in_err-cell.field-0.0 _ c.loop-column-test.true c.column-item.is
-        (sym c.in_ok-start.ensures.exact) h c.loop-column.invariant.so_far) c.in_err-cell.ensures.exact)
+    (sym c.in_ok-start.ensures.exact) h c.loop-column.invariant.so_far) c.in_err-cell.ensures.exact)
 
 pub loop-column-preserved : goal.loop-column-preserved
 loop-column-preserved c = record {
@@ -36,4 +36,4 @@ returns-clause-exact c = cells_end c.loop-column.cells c.args.columns.now c.args
 pub returns-clause-fits : goal.returns-clause-fits
 returns-clause-fits c =
     of_read (λ (read : List Cell × ℕ). IsRow c.args.columns.now read.0) (cells_at c.args.columns.now c.args.text.now c.args.place) (c.loop-column.cells, c.loop-column.at) (cells_end c.loop-column.cells c.args.columns.now c.args.text.now c.loop-column.column-index c.loop-column.at _
-        c.loop-column-test.false c.loop-column.invariant.so_far) (cells_fit c.args.columns.now c.args.text.now c.args.place)
+    c.loop-column-test.false c.loop-column.invariant.so_far) (cells_fit c.args.columns.now c.args.text.now c.args.place)

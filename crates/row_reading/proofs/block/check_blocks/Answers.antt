@@ -25,8 +25,8 @@ returns-in_err-check_rows-clause-exact c =
     let block : Block = record { count = c.in-Some.count; bytes = c.in-Some.bytes.now } in
     let told = simp to_z-of_z at c.rows_told-told.ensures.value in
     rw (p.1, p.2) (sym c.loop-count.invariant.so_far ∙ blocks_fail c.args.layout.now.schema c.args.layout.now.columns.now c.loop-count.number
-        c.loop-count.rows c.rows_told-told.result c.loop-count.walk.left block c.next.new.self.left c.in_err-check_rows.field-0.0
-        c.in-Some.ensures.value (sym told) c.in_err-check_rows.ensures.exact)
+    c.loop-count.rows c.rows_told-told.result c.loop-count.walk.left block c.next.new.self.left c.in_err-check_rows.field-0.0
+    c.in-Some.ensures.value (sym told) c.in_err-check_rows.ensures.exact)
 
 pub loop-count-preserved : goal.loop-count-preserved
 loop-count-preserved c =

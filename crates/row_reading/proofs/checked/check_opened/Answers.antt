@@ -20,6 +20,8 @@ show_checked-requires-clause-fits c = rw c.in_ok-layout.ensures.whole c.requires
 pub returns : goal.returns
 returns c =
     let fits : SFits w64 c.args.sequence = search rules in
-    record { exact = opened_given (λ (rows : Shown). rows.left) c.args.columns.now _ c.args.walk.whole _ c.args.schema _ c.args.first c.args.sequence
-        c.args.told c.show_checked.result c.in_ok-layout.ensures.exact c.in_ok-layout.ensures.columns c.in_ok-layout.ensures.whole
-        c.in_ok-layout.ensures.schema (simp to_z-of_z at c.show_checked.ensures.exact) }
+    record {
+      exact = opened_given (λ (rows : Shown). rows.left) c.args.columns.now _ c.args.walk.whole _ c.args.schema _ c.args.first c.args.sequence
+          c.args.told c.show_checked.result c.in_ok-layout.ensures.exact c.in_ok-layout.ensures.columns c.in_ok-layout.ensures.whole
+          c.in_ok-layout.ensures.schema (simp to_z-of_z at c.show_checked.ensures.exact);
+    }
