@@ -3,7 +3,8 @@ use Rattle.std.proofs.Common.{◌≡◌, ℕ, ◌+◌, ◌≤◌, List, Option, 
 use Rattle.serde_json.specs.Data.{Data, string}
 use Rattle.schema_tree.specs.declared.schema.Schema.{Schema}
 use Rattle.schema_tree.specs.Tree.{depth, size}
-use Rattle.avro_schema.specs.Defined.{Seen, known_as, full_name}
+use Rattle.avro_schema.specs.Defined.{Seen, known_as}
+use Rattle.schema_tree.specs.Names.{full_name}
 use Rattle.avro_schema.specs.Reading.{Reader, primitive_of, counted, use_of, word_at}
 use Rattle.avro_schema.specs.Meaning.{Means, primitive_word, name}
 use Rattle.words.specs.Steps.{map_then}

@@ -11,7 +11,8 @@ use Rattle.schema_tree.specs.declared.schema.Schema.TheVariants as schemas
 use Rattle.avro_schema.specs.declared.refusal.SchemaRefusal.TheVariants.{Form}
 use Rattle.avro_schema.specs.Refusal.{under}
 use Rattle.avro_schema.specs.Member.{needed, text_at, list_at, fixed_size_at, id_at, is_text}
-use Rattle.avro_schema.specs.Defined.{Definitions, Seen, namespace_of, with_name, begun, defined}
+use Rattle.avro_schema.specs.Defined.{Definitions, Seen, with_name, begun, defined}
+use Rattle.schema_tree.specs.Names.{namespace_of}
 use Rattle.avro_schema.specs.Reading.{Reader, primitive_of, logical_of, counted, name_at, fields_at, texts_at}
 use Rattle.avro_schema.specs.Reading.{record_at, enum_at, fixed_at, array_at, map_at, complex_at, typed_at, layer_at}
 use Rattle.avro_schema.specs.Meaning.{Means, primitive_type, record_type, enum_type, fixed_type, array_type, map_type}

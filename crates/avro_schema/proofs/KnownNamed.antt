@@ -19,7 +19,8 @@ use Rattle.avro_schema.specs.Printing.{written_of, written_field}
 use Rattle.avro_schema.specs.Printable.{spelled_of, spelled_field, is_avro_name}
 use Rattle.schema_tree.specs.Tree.{depth_of, size_of, number_of_field}
 use Rattle.schema_tree.specs.Ids.{ids_of, ids_of_field}
-use Rattle.avro_schema.specs.Defined.{Seen, is_taken, defined, full_name}
+use Rattle.avro_schema.specs.Defined.{Seen, is_taken, defined}
+use Rattle.schema_tree.specs.Names.{full_name}
 use Rattle.avro_schema.specs.Member.{values_of, text_at, list_at, fixed_size_at}
 use Rattle.avro_schema.specs.Reading.{scope_of, namespace_at, name_at, checked_name, texts_at, fixed_at, enum_at}
 use Rattle.avro_schema.specs.Reading.{schema_at}

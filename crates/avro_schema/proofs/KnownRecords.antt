@@ -16,7 +16,8 @@ use Rattle.avro_schema.specs.Printing.{written_of, written_field}
 use Rattle.avro_schema.specs.Printable.{spelled_of, spelled_field, are_distinct, is_avro_name, field_names}
 use Rattle.schema_tree.specs.Tree.{depth_of, size_of, number_of_field, largest}
 use Rattle.schema_tree.specs.Ids.{all_true, ids_of, ids_of_field}
-use Rattle.avro_schema.specs.Defined.{Seen, is_taken, begun, defined, namespace_of}
+use Rattle.avro_schema.specs.Defined.{Seen, is_taken, begun, defined}
+use Rattle.schema_tree.specs.Names.{namespace_of}
 use Rattle.avro_schema.specs.Member.{values_of}
 use Rattle.avro_schema.specs.Reading.{fields_at, has_field, record_at, schema_at}
 use Rattle.schema_tree.specs.Equations.{fold_record}

@@ -1,5 +1,4 @@
 pub mod SeenLaws
-pub mod NameLaws
 pub mod ItemLaws
 pub mod TextLaws
 mod Puts

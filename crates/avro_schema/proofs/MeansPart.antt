@@ -9,7 +9,8 @@ use Rattle.schema_tree.specs.declared.schema.Field.{Field}
 use Rattle.avro_schema.specs.declared.refusal.SchemaRefusal.{SchemaRefusal}
 use Rattle.avro_schema.specs.declared.refusal.SchemaRefusal.TheVariants.{Form}
 use Rattle.avro_schema.specs.Member.{text_of, or_form, needed, text_at}
-use Rattle.avro_schema.specs.Defined.{Seen, full_name, is_taken}
+use Rattle.avro_schema.specs.Defined.{Seen, is_taken}
+use Rattle.schema_tree.specs.Names.{full_name}
 use Rattle.avro_schema.specs.Reading.{scope_of, namespace_at, checked_name, name_at, has_field, new_field_name}
 use Rattle.avro_schema.specs.Reading.{texts_at, branch_at}
 use Rattle.avro_schema.specs.Meaning.{Defines, AreTexts, IsNoUnion}

@@ -7,7 +7,8 @@ use Rattle.schema_tree.specs.declared.schema.Field.{Field}
 use Rattle.schema_tree.specs.Tree.{depth, size}
 use Rattle.schema_tree.specs.Measure.{depth_of_fields, depth_of_branches, size_of_fields, size_of_branches}
 use Rattle.avro_schema.specs.declared.refusal.SchemaRefusal.{SchemaRefusal}
-use Rattle.avro_schema.specs.Defined.{Definitions, Seen, known_as, full_name}
+use Rattle.avro_schema.specs.Defined.{Definitions, Seen, known_as}
+use Rattle.schema_tree.specs.Names.{full_name}
 use Rattle.avro_schema.specs.Parts.{schema_below}
 use Rattle.avro_schema.specs.Reading.{Reader, primitive_of, use_of, word_at, fields_at, branches_at, schema_at}
 use Rattle.avro_schema.proofs.PartLaws.{schema_layer}

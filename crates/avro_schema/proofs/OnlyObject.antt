@@ -10,7 +10,8 @@ use Rattle.avro_schema.specs.Refusal.{under}
 use Rattle.schema_tree.specs.Tree.{size}
 use Rattle.schema_tree.specs.Measure.{size_of_fields}
 use Rattle.avro_schema.specs.Member.{needed, text_at, list_at, fixed_size_at, id_at, is_text}
-use Rattle.avro_schema.specs.Defined.{Definitions, Seen, with_name, namespace_of}
+use Rattle.avro_schema.specs.Defined.{Definitions, Seen, with_name}
+use Rattle.schema_tree.specs.Names.{namespace_of}
 use Rattle.avro_schema.specs.Parts.{schema_below}
 use Rattle.avro_schema.specs.Reading.{Reader, primitive_of, logical_of, name_at, fields_at, texts_at, typed_at}
 use Rattle.avro_schema.specs.Reading.{schema_at}

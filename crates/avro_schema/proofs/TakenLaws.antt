@@ -15,7 +15,8 @@ use Rattle.std.specs.Cmp.Lexicographic.{slice_cmp}
 use Rattle.std.specs.Str.{bytes_eq}
 use Rattle.schema_tree.specs.declared.schema.Schema.{Schema}
 use Rattle.avro_schema.specs.Printable.{begins_name, goes_on_name, is_avro_name, are_distinct}
-use Rattle.avro_schema.specs.Defined.{Definitions, has_dot, namespace_of, is_taken, with_name}
+use Rattle.avro_schema.specs.Defined.{Definitions, is_taken, with_name}
+use Rattle.schema_tree.specs.Names.{has_dot, namespace_of}
 
 -- ---- plain names
 

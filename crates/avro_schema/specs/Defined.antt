@@ -1,29 +1,11 @@
--- Full names, and what was defined under them. Avro 1.11, "Names".
-use Rattle.std.specs.Prelude.{ℕ, ◌==◌, Bool, List, [], ◌∷◌, ◌++◌, Option, Some, None, is_some, codes, if◌then◌else◌}
-use Rattle.std.specs.List.{list_any}
+-- What was defined under full names. Avro 1.11, "Names".
+use Rattle.std.specs.Prelude.{ℕ, Bool, List, [], Option, Some, None, is_some}
 use Rattle.std.specs.Map.{lookup}
 use Rattle.std.specs.BTreeMap.{insert_entry}
 use Rattle.std.specs.Ordering.{nat_cmp}
 use Rattle.std.specs.Cmp.Lexicographic.{slice_cmp}
 use Rattle.std.specs.Str.{bytes_eq}
 use Rattle.schema_tree.specs.declared.schema.Schema.{Schema}
-
--- some byte is a dot
-abbrev pub has_dot : List ℕ → Bool
-has_dot name = list_any (λ byte. byte == 46) name
-
--- a name in a namespace: one with a dot is full as it stands; one without stands in the namespace, if there is one
-abbrev pub full_name : List ℕ → List ℕ → List ℕ
-full_name [] name = name
-full_name (byte ∷ namespace) name = if has_dot name then name else (byte ∷ namespace) ++ (codes "." ++ name)
-
--- the namespace of a full name: what stands before its last dot
-unfoldable pub namespace_of : List ℕ → List ℕ
-namespace_of [] = []
-namespace_of (byte ∷ rest) =
-    if has_dot (byte ∷ rest)
-    then (if byte == 46 then (if has_dot rest then 46 ∷ namespace_of rest else []) else byte ∷ namespace_of rest)
-    else []
 
 -- each full name that is taken, in the order of their bytes, with the schema that it was defined as, once that is whole
 abbrev pub Definitions : Type 0

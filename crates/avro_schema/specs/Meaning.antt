@@ -9,7 +9,8 @@ use Rattle.schema_tree.specs.declared.schema.Schema.{Schema}
 use Rattle.schema_tree.specs.declared.schema.Schema.TheVariants as schemas
 use Rattle.schema_tree.specs.declared.schema.Field.{Field, roll-Field}
 use Rattle.avro_schema.specs.Member.{text_of, values_of, text_at, list_at, fixed_size_at, id_at, is_text}
-use Rattle.avro_schema.specs.Defined.{Definitions, known_as, is_taken, with_name, full_name, namespace_of}
+use Rattle.avro_schema.specs.Defined.{Definitions, known_as, is_taken, with_name}
+use Rattle.schema_tree.specs.Names.{full_name, namespace_of}
 use Rattle.schema_tree.specs.Tree.{depth, size}
 use Rattle.avro_schema.specs.Reading.{primitive_of, logical_of, namespace_at, scope_of, has_field}
 

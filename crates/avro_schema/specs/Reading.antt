@@ -20,7 +20,8 @@ use Rattle.avro_schema.specs.Refusal.{under}
 use Rattle.schema_tree.specs.Tree.{depth, size}
 use Rattle.avro_schema.specs.Member.{text_of, values_of, or_form, needed, text_at, list_at, fixed_size_at, id_at}
 use Rattle.avro_schema.specs.Member.{is_text, is_true}
-use Rattle.avro_schema.specs.Defined.{Seen, known_as, is_taken, full_name, namespace_of, begun, defined, nothing_seen}
+use Rattle.avro_schema.specs.Defined.{Seen, known_as, is_taken, begun, defined, nothing_seen}
+use Rattle.schema_tree.specs.Names.{full_name, namespace_of}
 
 -- ---- primitive types
 

@@ -12,13 +12,12 @@ ghost use Rattle.avro_schema.specs.Refusal.{is_memory};
 ghost use Rattle.words.specs.Reading.{Gives};
 
 use crate::member::{fixed_size_at, list_at, text_at};
-use crate::name::full_name;
 use crate::refusal::{SchemaRefusal, form, form_at, under};
 use crate::seen::Seen;
 use avro_wire::Text;
 use json_members::{Members, member};
 use lists::List;
-use schema_tree::{Fields, Name, Names, Schema};
+use schema_tree::{Fields, Name, Names, Schema, full_name};
 use serde_json::Value;
 use std::alloc::Global;
 

@@ -3,7 +3,7 @@
 //! | Module | What it has |
 //! |---|---|
 //! | `refusal` | why a text is no schema, and refusals under the pieces of a path |
-//! | `name`, `seen` | full names and namespaces; the names that were defined so far |
+//! | `seen` | the names that were defined so far |
 //! | `member` | the members of a JSON object |
 //! | `primitive` | primitive types, and what their numbers stand for |
 //! | `definition` | enums, fixed types, and the name of any definition |
@@ -14,7 +14,6 @@
 mod definition;
 mod law;
 mod member;
-mod name;
 mod primitive;
 mod printing;
 mod reading;

@@ -14,14 +14,13 @@ ghost use Rattle.words.specs.Reading.{Gives};
 
 use crate::definition::{begin_record, enum_of, fixed_of, whole_record};
 use crate::member::{id_at, is_text, list_at, needed, text_at};
-use crate::name::{full_name, namespace_of};
 use crate::primitive::{logical_of, primitive_of};
 use crate::refusal::{SchemaRefusal, form, under, under_place};
 use crate::seen::Seen;
 use avro_wire::Text;
 use json_members::{Members, parse};
 use lists::{Distinct, List};
-use schema_tree::{Branches, Field, Fields, Name, Schema};
+use schema_tree::{Branches, Field, Fields, Name, Schema, full_name, namespace_of};
 use serde_json::Value;
 use sqlite_items::Boxed;
 use std::alloc::Global;

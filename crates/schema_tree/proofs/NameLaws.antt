@@ -1,7 +1,7 @@
 -- The last dot of a name, looked for from its end.
 use Rattle.std.proofs.Common.{◌≡◌, ℕ, zero, suc, ◌<◌, ◌==◌, ◌||◌, Bool, if◌then◌else◌, true, false, List, [], ◌∷◌}
 use Rattle.std.proofs.Common.{length, get_or, take, drop, refl, arith}
-use Rattle.avro_schema.specs.Defined.{has_dot, namespace_of}
+use Rattle.schema_tree.specs.Names.{has_dot, namespace_of}
 
 -- a dot somewhere in a name
 dot_within : (name : List ℕ) (end : ℕ) → end < length name → get_or name end 0 ≡ 46 → has_dot name ≡ true

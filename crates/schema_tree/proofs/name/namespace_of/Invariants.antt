@@ -1,6 +1,6 @@
 use Rattle.std.proofs.Common.{◌≡◌, ◌≤◌, false, length, drop}
-use Rattle.avro_schema.specs.Defined.{has_dot}
-use Rattle.avro_schema.proofs.name.namespace_of.Given as goal
+use Rattle.schema_tree.specs.Names.{has_dot}
+use Rattle.schema_tree.proofs.name.namespace_of.Given as goal
 
 abbrev pub invariant-loop-end : goal.invariant-loop-end
 invariant-loop-end l = record {

@@ -1,7 +1,7 @@
 //! Full names and namespaces. Avro 1.11, "Names".
 
 ghost use Rattle.std.specs.Prelude.{◌≡◌, IfOk};
-ghost use Rattle.avro_schema.specs.Defined as spec;
+ghost use Rattle.schema_tree.specs.Names as spec;
 
 use avro_wire::Text;
 use std::alloc::{AllocError, Global};

@@ -1,7 +1,7 @@
 use Rattle.std.proofs.Common.{◌≡◌, ℕ, suc, ◌-◌, false, take, drop, sym, ap, subst, ◌∙◌, arith}
-use Rattle.avro_schema.specs.Defined.{has_dot}
-use Rattle.avro_schema.proofs.NameLaws.{last_dot, no_dot}
-use Rattle.avro_schema.proofs.name.namespace_of.Goals as goal
+use Rattle.schema_tree.specs.Names.{has_dot}
+use Rattle.schema_tree.proofs.NameLaws.{last_dot, no_dot}
+use Rattle.schema_tree.proofs.name.namespace_of.Goals as goal
 
 pub returns-then-bytes-end-eq46 : goal.returns-then-bytes-end-eq46
 returns-then-bytes-end-eq46 c =
