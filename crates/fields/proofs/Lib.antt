@@ -1,0 +1,10 @@
+pub mod FormLemmas
+pub mod FieldLemmas
+pub mod NullLemmas
+pub mod FlatLaws
+pub mod KeptLaws
+pub mod LeafLemmas
+pub mod TakingLemmas
+pub mod FirstLemmas
+pub mod PassingLemmas
+pub mod AgreeingLaws

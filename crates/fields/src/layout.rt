@@ -1,0 +1,141 @@
+//! How the records of a schema are read.
+
+ghost use Rattle.std.specs.Prelude.{◌≡◌, length, map, IfOk};
+ghost use Rattle.words.specs.Reading.{Gives};
+ghost use Rattle.fields.specs.Flat.{leaf_of, leaves};
+ghost use Rattle.fields.specs.Kept.{slot_at};
+ghost use Rattle.fields.specs.Nulls.{first_of, is_at, is_needed, needed_from};
+ghost use Rattle.fields.specs.Wanted.{fields_of as fields_in, source as source_in};
+ghost use Rattle.fields.specs.Wanted.{check_missing as missing_in};
+ghost use Rattle.fields.specs.Record.{is_memory, place_in, forms_of as forms_in, IsLayout};
+
+use crate::form::{Form, form_of};
+use crate::leaf::{Leaf, kept_of, leaves_of, slots_of};
+use crate::refusal::FieldRefusal;
+use crate::wanted::{Wanted, check_missing, fields_of, source};
+use schema_tree::Schema;
+use std::alloc::{AllocError, Global};
+
+/// How the records of a schema are read for what is wanted.
+#[derive(Drop)]
+pub struct Layout<'a> {
+    pub wanted: &'a [Wanted],
+    pub schema: &'a Schema,
+    /// Its fields, and those of the records in it, whose values take bytes.
+    pub leaves: Vec<Leaf<'a>>,
+    /// For each of them how its cells are read.
+    pub forms: Vec<Option<Form>>,
+    /// For each wanted field the place of the one of them that holds it.
+    pub sources: Vec<Option<usize>>,
+    /// For each of them the place of the first wanted field that it holds and that is required.
+    pub needed: Vec<usize>,
+}
+
+/// The layout of the records of the schema. The first required field that the schema has not, in
+/// the order of `wanted`, is refused.
+pub fn lay_out<'a>(
+    alloc: Global,
+    schema: &'a Schema,
+    wanted: &'a [Wanted],
+) -> Result<Layout<'a>, FieldRefusal>
+    ensures missing { Gives is_memory (λ _. tt) result
+        (missing_in (leaves (fields_in schema.now)) wanted.now) }
+    ensures schema { IfOk result (λ layout. layout.schema.now ≡ schema.now) }
+    ensures wanted { IfOk result (λ layout. layout.wanted.now ≡ wanted.now) }
+    ensures right { IfOk result IsLayout }
+{
+    let all = leaves_of(alloc, fields_of(schema))?;
+    check_missing(&all, wanted)?;
+    let sources = sources_of(alloc, &all, wanted)?;
+    let leaves = kept_of(alloc, &all)?;
+    let forms = forms_of(alloc, &leaves)?;
+    let needed = needed_of(alloc, wanted, &sources, leaves.len())?;
+    Ok(Layout {
+        wanted,
+        schema,
+        leaves,
+        forms,
+        sources,
+        needed,
+    })
+}
+
+/// The place of each wanted field among those that take bytes.
+fn sources_of(
+    alloc: Global,
+    all: &[Leaf<'_>],
+    wanted: &[Wanted],
+) -> Result<Vec<Option<usize>>, AllocError>
+    ensures { IfOk result (λ sources.
+        sources.items ≡ map (place_in (map leaf_of all.now)) wanted.now) }
+{
+    let slots = slots_of(alloc, all)?;
+    let mut sources = Vec::new(alloc);
+    for w in wanted {
+        sources.push(slot_at(&slots, source(all, w)))?;
+    }
+    Ok(sources)
+}
+
+/// The slot of the field at a place.
+fn slot_at(slots: &[Option<usize>], place: Option<usize>) -> Option<usize>
+    ensures { result ≡ slot_at slots.now place }
+{
+    match place {
+        Some(place) if place < slots.len() => slots[place],
+        _ => None,
+    }
+}
+
+/// How the cells of each field are read.
+fn forms_of(alloc: Global, leaves: &Vec<Leaf<'_>>) -> Result<Vec<Option<Form>>, AllocError>
+    ensures { IfOk result (λ forms. forms.items ≡ forms_in (map leaf_of leaves.now.items)) }
+{
+    let mut forms = Vec::new(alloc);
+    for leaf in leaves {
+        forms.push(form_of(leaf.schema))?;
+    }
+    Ok(forms)
+}
+
+/// For each of so many fields the first required field that it holds.
+#[tactic(auto, using(crate::proofs::FirstLemmas::needed_steps))]
+fn needed_of(
+    alloc: Global,
+    wanted: &[Wanted],
+    sources: &[Option<usize>],
+    many: usize,
+) -> Result<Vec<usize>, AllocError>
+    requires { length sources.now ≡ length wanted.now }
+    ensures { IfOk result (λ needed. needed.items ≡ needed_from wanted.now sources.now 0 many) }
+{
+    let mut needed = Vec::new(alloc);
+    for place in 0..many {
+        needed.push(first_of(wanted, sources, place))?;
+    }
+    Ok(needed)
+}
+
+/// The place of the first required field that the field at `place` holds. Behind all: none.
+#[tactic(auto, using(crate::proofs::FirstLemmas::first_steps))]
+fn first_of(wanted: &[Wanted], sources: &[Option<usize>], place: usize) -> usize
+    requires { length sources.now ≡ length wanted.now }
+    ensures { result ≡ first_of (is_at place) wanted.now sources.now }
+{
+    for index in 0..wanted.len() {
+        if is_needed(&wanted[index], sources[index], place) {
+            return index;
+        }
+    }
+    wanted.len()
+}
+
+/// Whether the field is required, and its source is the field at the place.
+fn is_needed(wanted: &Wanted, source: Option<usize>, place: usize) -> bool
+    ensures { result ≡ is_needed place wanted.now source }
+{
+    match source {
+        Some(source) => wanted.required && source == place,
+        None => false,
+    }
+}

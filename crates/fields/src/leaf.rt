@@ -1,0 +1,121 @@
+//! The fields of a record, and of the records in it.
+
+ghost use Rattle.std.specs.Prelude.{◌≡◌, [], ◌∷◌, ◌+◌, ◌<◌, ◌^◌, ◌++◌, map, IfOk};
+ghost use Rattle.fields.specs.Flat.{leaf_of, inner_leaf, leaves_of_field, leaves};
+ghost use Rattle.fields.specs.Kept.{kept, slots, slot_of, behind_slot};
+
+use crate::empty::is_empty;
+use schema_tree::{Field, Schema};
+use std::alloc::{AllocError, Global};
+
+/// A field of a record, or one of a record that stands in a field of it.
+#[derive(Clone, Copy)]
+pub struct Leaf<'s> {
+    /// The id of the field in which the record stands. None: there is none.
+    pub parent: Option<i32>,
+    pub id: Option<i32>,
+    pub schema: &'s Schema,
+}
+
+/// The fields of a record, and in their places those of the records in it.
+pub fn leaves_of<'s>(alloc: Global, fields: &'s [Field]) -> Result<Vec<Leaf<'s>>, AllocError>
+    ensures { IfOk result (λ all. map leaf_of all.items ≡ leaves fields.now) }
+{
+    let mut all = Vec::new(alloc);
+    for field in fields {
+        push_field(&mut all, field)?;
+    }
+    Ok(all)
+}
+
+/// Adds the field, or the fields of the record that stands in it.
+fn push_field<'s>(all: &mut Vec<Leaf<'s>>, field: &'s Field) -> Result<(), AllocError>
+    ensures { IfOk result (λ _. map leaf_of all.new.items
+        ≡ map leaf_of all.old.items ++ leaves_of_field field.now) }
+{
+    match &field.schema {
+        Schema::Rec { fields, .. } => push_inner(all, field.id, fields.as_slice()),
+        schema => {
+            all.push(Leaf {
+                parent: None,
+                id: field.id,
+                schema,
+            })?;
+            Ok(())
+        }
+    }
+}
+
+/// Adds the fields of a record that stands in a field of the id.
+fn push_inner<'s>(
+    all: &mut Vec<Leaf<'s>>,
+    parent: Option<i32>,
+    fields: &'s [Field],
+) -> Result<(), AllocError>
+    ensures { IfOk result (λ _. map leaf_of all.new.items
+        ≡ map leaf_of all.old.items ++ map (inner_leaf parent) fields.now) }
+{
+    for field in fields {
+        all.push(Leaf {
+            parent,
+            id: field.id,
+            schema: &field.schema,
+        })?;
+    }
+    Ok(())
+}
+
+/// The fields whose values take bytes.
+#[tactic(auto, using(crate::proofs::FirstLemmas::kept_steps))]
+pub fn kept_of<'s>(alloc: Global, all: &[Leaf<'s>]) -> Result<Vec<Leaf<'s>>, AllocError>
+    ensures { IfOk result (λ found. map leaf_of found.items ≡ kept (map leaf_of all.now)) }
+{
+    let mut found = Vec::new(alloc);
+    for place in 0..all.len() {
+        push_kept(&mut found, all[place])?;
+    }
+    Ok(found)
+}
+
+/// Adds the field, if its values take bytes.
+#[tactic(auto, unfolding(crate::specs::Kept::kept))]
+fn push_kept<'s>(found: &mut Vec<Leaf<'s>>, leaf: Leaf<'s>) -> Result<(), AllocError>
+    ensures { IfOk result (λ _. map leaf_of found.new.items
+        ≡ map leaf_of found.old.items ++ kept (leaf_of leaf.entry ∷ [])) }
+{
+    if is_empty(leaf.schema) {
+        return Ok(());
+    }
+    found.push(leaf)?;
+    Ok(())
+}
+
+/// For each field its place among those whose values take bytes, counted from 0.
+#[tactic(auto, using(crate::proofs::FirstLemmas::slots_steps))]
+pub fn slots_of(alloc: Global, all: &[Leaf<'_>]) -> Result<Vec<Option<usize>>, AllocError>
+    ensures { IfOk result (λ found. found.items ≡ slots 0 (map leaf_of all.now)) }
+{
+    let mut found = Vec::new(alloc);
+    let mut many = 0;
+    for place in 0..all.len() {
+        let empty = is_empty(all[place].schema);
+        found.push(slot_of(empty, many))?;
+        many = behind_slot(empty, many);
+    }
+    Ok(found)
+}
+
+/// The place of a field behind so many whose values take bytes. None: its values take none.
+fn slot_of(empty: bool, many: usize) -> Option<usize>
+    ensures { result ≡ slot_of empty many }
+{
+    if empty { None } else { Some(many) }
+}
+
+/// How many fields up to this one take bytes.
+fn behind_slot(empty: bool, many: usize) -> usize
+    requires { many + 1 < 2 ^ 64 }
+    ensures { result ≡ behind_slot empty many }
+{
+    if empty { many } else { many + 1 }
+}

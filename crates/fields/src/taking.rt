@@ -1,0 +1,239 @@
+//! One record, lent from its bytes.
+
+ghost use Rattle.std.specs.Prelude.{◌≡◌, ◌≤◌, [], ◌∷◌, List, length, map, true, Ok, IfOk, is_ok};
+ghost use Rattle.words.specs.Reading.{Gives, never};
+ghost use Rattle.schema_tree.specs.declared.schema.Schema.{Schema as ASchema};
+ghost use Rattle.row_types.specs.CellRef.{lent_cell};
+ghost use Rattle.fields.specs.Flat.{leaf_of, leaf_readers};
+ghost use Rattle.datum_reading.specs.Reading.{fields_at, datum_at};
+ghost use Rattle.fields.specs.declared.wanted.Wanted.{Wanted as AWanted};
+ghost use Rattle.fields.specs.Form.{form_of};
+ghost use Rattle.fields.specs.Wanted.{fields_of as fields_in, source, check_nulls};
+ghost use Rattle.fields.specs.Record.{datum_refusal, record_at, forms_of, field_as, fields_as};
+ghost use Rattle.fields.specs.Record.{value_as, pick, RecordAgrees, IsLayout, IsWide};
+
+use crate::form::{Form, take_cell};
+use crate::layout::Layout;
+use crate::leaf::Leaf;
+use crate::refusal::FieldRefusal;
+use crate::wanted::Wanted;
+use datum_reading::{Cursor, DatumRefusal, reading_agrees, skip};
+use row_types::CellRef;
+use schema_tree::Schema;
+use std::alloc::{AllocError, Global};
+
+/// The cells of one record, lent from its bytes.
+#[derive(Drop)]
+pub struct Cells<'a> {
+    /// Those of all fields of the record.
+    all: Vec<CellRef<'a>>,
+    /// Those that are wanted, in the order in which they are.
+    pub wanted: Vec<CellRef<'a>>,
+}
+
+/// Nulls for the records of a layout.
+pub fn nulls<'a>(alloc: Global, layout: &Layout<'_>) -> Result<Cells<'a>, AllocError>
+    ensures all { IfOk result (λ cells. length cells.all.items ≡ length layout.now.forms.items) }
+    ensures wanted { IfOk result (λ cells.
+        length cells.wanted.items ≡ length layout.now.sources.items) }
+{
+    Ok(Cells {
+        all: some_nulls(alloc, layout.forms.len())?,
+        wanted: some_nulls(alloc, layout.sources.len())?,
+    })
+}
+
+/// So many nulls.
+fn some_nulls<'a>(alloc: Global, count: usize) -> Result<Vec<CellRef<'a>>, AllocError>
+    ensures { IfOk result (λ cells. length cells.items ≡ count) }
+{
+    vec![in alloc; CellRef::Null; count]
+}
+
+/// Takes the record at `place` into `cells`, and answers the place behind it. A value that can't be
+/// read is refused first, then a null in a required field.
+#[tactic(auto, unfolding(crate::specs::Record::record_at))]
+pub fn take_record<'a>(
+    layout: &Layout<'_>,
+    input: &'a [u8],
+    place: usize,
+    cells: &mut Cells<'a>,
+) -> Result<usize, FieldRefusal>
+    requires layout { IsLayout layout.now }
+    requires wide { IsWide layout.now cells.old.all.items cells.old.wanted.items }
+    requires start { place ≤ length input.now }
+    ensures exact { Gives never (λ after. (map lent_cell cells.new.wanted.items, after)) result
+        (record_at layout.now.schema.now layout.now.wanted.now input.now place) }
+    ensures wide { IsWide layout.now cells.new.all.items cells.new.wanted.items }
+    ensures within { IfOk result (λ after. (place ≤ after) × (after ≤ length input.now)) }
+{
+    let start = Cursor { place, items: 0 };
+    let after = match take_all(layout, input, start, &mut cells.all) {
+        Ok(after) => after,
+        Err(refusal) => return Err(refusal_of(refusal)),
+    };
+    arrange(&layout.sources, &cells.all, &mut cells.wanted);
+    check_nulls(layout.wanted, &cells.wanted)?;
+    Ok(after.place)
+}
+
+/// Takes the record at `place` into `cells`, and answers the place behind it. The record has to be
+/// right: `pass_record` or `take_record` accepted it.
+pub fn take_known_record<'a>(
+    layout: &Layout<'_>,
+    input: &'a [u8],
+    place: usize,
+    cells: &mut Cells<'a>,
+) -> usize
+    requires layout { IsLayout layout.now }
+    requires wide { IsWide layout.now cells.old.all.items cells.old.wanted.items }
+    requires start { place ≤ length input.now }
+    requires known { is_ok (record_at layout.now.schema.now layout.now.wanted.now input.now place)
+        ≡ true }
+    ensures exact { record_at layout.now.schema.now layout.now.wanted.now input.now place
+        ≡ Ok (map lent_cell cells.new.wanted.items, result) }
+    ensures wide { IsWide layout.now cells.new.all.items cells.new.wanted.items }
+    ensures within { (place ≤ result) × (result ≤ length input.now) }
+{
+    let start = Cursor { place, items: 0 };
+    let after = match take_all(layout, input, start, &mut cells.all) {
+        Ok(after) => after,
+        Err(_) => unreachable!(),
+    };
+    arrange(&layout.sources, &cells.all, &mut cells.wanted);
+    after.place
+}
+
+/// A law and no code: what is read is stored so, and what is stored so is read.
+pub fn record_agrees()
+    ensures { (schema : ASchema) (wanted : List AWanted) → RecordAgrees schema wanted }
+{
+    reading_agrees();
+}
+
+/// Takes the cells of all fields whose values take bytes.
+fn take_all<'a>(
+    layout: &Layout<'_>,
+    input: &'a [u8],
+    at: Cursor,
+    all: &mut Vec<CellRef<'a>>,
+) -> Result<Cursor, DatumRefusal>
+    requires layout { IsLayout layout.now }
+    requires width { length all.old.items ≡ length layout.now.forms.items }
+    requires start { at.place ≤ length input.now }
+    ensures exact { Gives never (λ after. (map lent_cell all.new.items, after)) result
+        (value_as (fields_in layout.now.schema.now) (datum_at layout.now.schema.now input.now at)) }
+    ensures width { length all.new.items ≡ length all.old.items }
+    ensures within { IfOk result (λ after.
+        (at.place ≤ after.place) × (after.place ≤ length input.now)) }
+{
+    match layout.schema {
+        Schema::Rec { .. } => take_fields(&layout.leaves, &layout.forms, input, at, all),
+        schema => skip(schema, input, at),
+    }
+}
+
+/// Takes the cell of each field, one behind the other.
+fn take_fields<'a>(
+    leaves: &[Leaf<'_>],
+    forms: &[Option<Form>],
+    input: &'a [u8],
+    at: Cursor,
+    all: &mut Vec<CellRef<'a>>,
+) -> Result<Cursor, DatumRefusal>
+    requires forms { forms.now ≡ forms_of (map leaf_of leaves.now) }
+    requires width { length all.old.items ≡ length forms.now }
+    requires start { at.place ≤ length input.now }
+    ensures exact { Gives never (λ after. (map lent_cell all.new.items, after)) result
+        (fields_as (map leaf_of leaves.now)
+        (fields_at (leaf_readers (map leaf_of leaves.now)) [] input.now at)) }
+    ensures width { length all.new.items ≡ length all.old.items }
+    ensures within { IfOk result (λ after.
+        (at.place ≤ after.place) × (after.place ≤ length input.now)) }
+{
+    let mut at = at;
+    for place in 0..leaves.len() {
+        let (cell, after) = take_field(forms[place], leaves[place].schema, input, at)?;
+        all[place] = cell;
+        at = after;
+    }
+    Ok(at)
+}
+
+/// Takes the cell of one field.
+pub fn take_field<'a>(
+    form: Option<Form>,
+    schema: &Schema,
+    input: &'a [u8],
+    at: Cursor,
+) -> Result<(CellRef<'a>, Cursor), DatumRefusal>
+    requires form { form ≡ form_of schema.now }
+    requires start { at.place ≤ length input.now }
+    ensures exact { Gives never (λ taken. (lent_cell taken.0, taken.1)) result
+        (field_as form (datum_at schema.now input.now at)) }
+    ensures within { IfOk result (λ taken.
+        (at.place ≤ taken.1.place) × (taken.1.place ≤ length input.now)) }
+{
+    match form {
+        Some(form) => take_cell(form, input, at),
+        None => {
+            let after = skip(schema, input, at)?;
+            Ok((CellRef::Null, after))
+        }
+    }
+}
+
+/// Puts the cells that are wanted in their order.
+fn arrange<'a>(sources: &Vec<Option<usize>>, all: &Vec<CellRef<'a>>, wanted: &mut Vec<CellRef<'a>>)
+    requires width { length wanted.old.items ≡ length sources.now.items }
+    ensures arranged { map lent_cell wanted.new.items
+        ≡ map (pick (map lent_cell all.now.items)) sources.now.items }
+    ensures width { length wanted.new.items ≡ length wanted.old.items }
+{
+    for place in 0..sources.len() {
+        wanted[place] = picked(all, sources[place]);
+    }
+}
+
+/// The cell at the place; null where there is none.
+fn picked<'a>(all: &[CellRef<'a>], source: Option<usize>) -> CellRef<'a>
+    ensures { lent_cell result ≡ pick (map lent_cell all.now) source }
+{
+    match source {
+        Some(place) if place < all.len() => all[place],
+        _ => CellRef::Null,
+    }
+}
+
+/// Whether no required field has a null.
+#[tactic(auto, using(crate::proofs::NullLemmas::null_steps))]
+fn check_nulls(wanted: &[Wanted], cells: &Vec<CellRef<'_>>) -> Result<(), FieldRefusal>
+    requires { length cells.now.items ≡ length wanted.now }
+    ensures { result ≡ check_nulls wanted.now (map lent_cell cells.now.items) }
+{
+    for index in 0..wanted.len() {
+        check_null(&wanted[index], cells[index])?;
+    }
+    Ok(())
+}
+
+/// Whether the cell is no null where one is required.
+#[tactic(auto, unfolding(crate::specs::Wanted::check_nulls))]
+fn check_null(wanted: &Wanted, cell: CellRef<'_>) -> Result<(), FieldRefusal>
+    ensures { result ≡ check_nulls (wanted.now ∷ []) (lent_cell cell.entry ∷ []) }
+{
+    if wanted.required && cell.is_null() {
+        return Err(FieldRefusal::MissingField { id: wanted.id });
+    }
+    Ok(())
+}
+
+/// What a refusal of a record's bytes is called.
+pub fn refusal_of(refusal: DatumRefusal) -> FieldRefusal
+    ensures { result ≡ datum_refusal refusal }
+{
+    match refusal {
+        DatumRefusal::Memory => FieldRefusal::Memory,
+        refusal => FieldRefusal::NoValue(refusal),
+    }
+}
