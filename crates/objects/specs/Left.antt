@@ -38,7 +38,9 @@ pub record IsWithin (rest : Rest) : Type 0 where
   pub place : rest.place ≤ length rest.block.now
   pub few : rest.number + length rest.walk.left < 2 ^ 63
 
--- the reader can go on: places and numbers are within their bounds, and the slot is one for its objects
-pub record IsReady {R S : Type 0} (fits : R → S → Type 0) (reader : R) (rest : Rest) (slot : S) : Type 0 where
+-- the reader can go on: it is right, places and numbers are within their bounds, and the slot is one for its objects
+pub record IsReady {R S : Type 0} (right : R → Type 0) (fits : R → S → Type 0) (reader : R) (rest : Rest) (slot : S)
+    : Type 0 where
   pub within : IsWithin rest
+  pub reader_right : right reader
   pub slot_fits : fits reader slot

@@ -37,9 +37,10 @@ impl<'a, R: Object<'a>> Objects<'a, R> {
     /// The objects of the blocks that the walk has left. Until the first call of `advance`, the
     /// object that is shown is what the slot holds.
     pub fn new(reader: R, walk: Walk<'a>, slot: R::Slot) -> Objects<'a, R>
+        requires right { R.right reader }
         requires fits { R.fits reader slot }
         requires few { length walk.left < 2 ^ 63 }
-        ensures ready { IsReady R.fits result.reader result.rest result.slot }
+        ensures ready { IsReady R.right R.fits result.reader result.rest result.slot }
         ensures left { left_of (R.at result.reader) R.rest result.rest
             ≡ blocks_from (R.at reader) R.rest 1 walk.entry.left }
         ensures reader { result.reader ≡ reader }
@@ -61,8 +62,8 @@ impl<'a, R: Object<'a>> Objects<'a, R> {
     /// Shows the next object, and returns whether there was one. A refusal stays: the next call
     /// returns it again.
     pub fn advance(&mut self) -> Result<bool, R::Refusal>
-        requires ready { IsReady R.fits self.old.reader self.old.rest self.old.slot }
-        ensures ready { IsReady R.fits self.new.reader self.new.rest self.new.slot }
+        requires ready { IsReady R.right R.fits self.old.reader self.old.rest self.old.slot }
+        ensures ready { IsReady R.right R.fits self.new.reader self.new.rest self.new.slot }
         ensures step { IsStep (left_of (R.at self.old.reader) R.rest self.old.rest) result
             (R.held self.new.slot) (left_of (R.at self.old.reader) R.rest self.new.rest) }
         ensures reader { self.new.reader ≡ self.old.reader }
@@ -81,9 +82,9 @@ impl<'a, R: Object<'a>> Objects<'a, R> {
 
     /// Shows the next object, and returns whether there was one, if all that are left were checked.
     pub fn advance_known(&mut self) -> bool
-        requires ready { IsReady R.fits self.old.reader self.old.rest self.old.slot }
+        requires ready { IsReady R.right R.fits self.old.reader self.old.rest self.old.slot }
         requires known { (left_of (R.at self.old.reader) R.rest self.old.rest).fault ≡ None }
-        ensures ready { IsReady R.fits self.new.reader self.new.rest self.new.slot }
+        ensures ready { IsReady R.right R.fits self.new.reader self.new.rest self.new.slot }
         ensures known { (left_of (R.at self.new.reader) R.rest self.new.rest).fault ≡ None }
         ensures shown { OnTrue result
             ((left_of (R.at self.old.reader) R.rest self.old.rest).objects
@@ -108,8 +109,8 @@ impl<'a, R: Object<'a>> Objects<'a, R> {
 
     /// Checks all objects that are left, and builds none of them.
     pub fn check(&mut self) -> Result<(), R::Refusal>
-        requires ready { IsReady R.fits self.old.reader self.old.rest self.old.slot }
-        ensures ready { IsReady R.fits self.new.reader self.new.rest self.new.slot }
+        requires ready { IsReady R.right R.fits self.old.reader self.old.rest self.old.slot }
+        ensures ready { IsReady R.right R.fits self.new.reader self.new.rest self.new.slot }
         ensures exact { Gives never (λ done. done) result
             (outcome (all (left_of (R.at self.old.reader) R.rest self.old.rest))) }
         ensures reader { self.new.reader ≡ self.old.reader }
@@ -121,9 +122,9 @@ impl<'a, R: Object<'a>> Objects<'a, R> {
 
     /// Goes back to the first block.
     pub fn restart(&mut self)
-        requires ready { IsReady R.fits self.old.reader self.old.rest self.old.slot }
+        requires ready { IsReady R.right R.fits self.old.reader self.old.rest self.old.slot }
         requires few { length self.old.rest.walk.whole.blocks < 2 ^ 63 }
-        ensures ready { IsReady R.fits self.new.reader self.new.rest self.new.slot }
+        ensures ready { IsReady R.right R.fits self.new.reader self.new.rest self.new.slot }
         ensures left { left_of (R.at self.old.reader) R.rest self.new.rest
             ≡ blocks_from (R.at self.old.reader) R.rest 1 self.old.rest.walk.whole.blocks }
         ensures reader { self.new.reader ≡ self.old.reader }
@@ -206,6 +207,7 @@ fn go_on_known<'a, R: Object<'a>>(reader: &R, rest: &mut Rest<'a>) -> bool
 
 /// Checks the next object, and returns whether there was one.
 fn pass_next<'a, R: Object<'a>>(reader: &R, rest: &mut Rest<'a>) -> Result<bool, R::Refusal>
+    requires right { R.right reader.now }
     requires within { IsWithin rest.old }
     ensures within { IsWithin rest.new }
     ensures step { IsPass (left_of (R.at reader.now) R.rest rest.old) result

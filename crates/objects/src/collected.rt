@@ -20,6 +20,7 @@ pub fn read_all<'a, R: Owning<'a>>(
     walk: Walk<'a>,
     slot: R::Slot,
 ) -> Result<OwnList<R::Value>, R::Refusal>
+    requires right { R.right reader }
     requires fits { R.fits reader slot }
     requires few { length walk.left < 2 ^ 63 }
     // The objects are those that the blocks hold, and what they hold is read.
@@ -41,6 +42,7 @@ fn read_left<'a, R: Owning<'a>>(
     walk: Walk<'a>,
     slot: R::Slot,
 ) -> Result<OwnList<R::Value>, R::Refusal>
+    requires right { R.right reader }
     requires fits { R.fits reader slot }
     requires few { length walk.left < 2 ^ 63 }
     ensures exact { Gives R.is_memory (λ values. values) result
@@ -55,7 +57,7 @@ pub fn collect<'a, R: Owning<'a>>(
     alloc: Global,
     objects: &mut Objects<'a, R>,
 ) -> Result<OwnList<R::Value>, R::Refusal>
-    requires ready { IsReady R.fits objects.old.reader objects.old.rest objects.old.slot }
+    requires ready { IsReady R.right R.fits objects.old.reader objects.old.rest objects.old.slot }
     ensures exact { Gives R.is_memory (λ values. values) result
         (all (left_of (R.at objects.old.reader) R.rest objects.old.rest)) }
 {

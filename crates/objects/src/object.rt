@@ -24,6 +24,9 @@ pub trait Object<'a>: Drop {
     /// What the slot holds.
     ghost held: { Self.Slot → Self.Value };
 
+    /// The reader is one that can read: what it was made of belongs together.
+    ghost right: { Self → Type 0 };
+
     /// The slot is one for this reader's objects.
     ghost fits: { Self → Self.Slot → Type 0 };
 
@@ -37,6 +40,7 @@ pub trait Object<'a>: Drop {
         place: usize,
         slot: &mut Self::Slot,
     ) -> Result<usize, Self::Refusal>
+        requires right { right self.now }
         requires start { place ≤ length input.now }
         requires fits { fits self.now slot.old }
         ensures exact { Gives never (λ after. (held slot.new, after)) result
@@ -47,6 +51,7 @@ pub trait Object<'a>: Drop {
     /// Checks the object at `place`, and returns the place behind it. It refuses what `take`
     /// refuses, and builds nothing.
     fn pass(&self, input: &'a [u8], place: usize) -> Result<usize, Self::Refusal>
+        requires right { right self.now }
         requires start { place ≤ length input.now }
         ensures exact { Gives never (λ after. after) result
             (place_behind (at self.now input.now place)) }
@@ -55,6 +60,7 @@ pub trait Object<'a>: Drop {
     /// Reads the object at `place`, which was checked, into `slot`, and returns the place behind
     /// it.
     fn take_known(&self, input: &'a [u8], place: usize, slot: &mut Self::Slot) -> usize
+        requires right { right self.now }
         requires start { place ≤ length input.now }
         requires fits { fits self.now slot.old }
         requires known { is_ok (at self.now input.now place) ≡ true }

@@ -5,7 +5,7 @@ use Rattle.objects.proofs.collected.collect.Given as goal
 
 abbrev pub invariant-loop-list : goal.invariant-loop-list
 invariant-loop-list g l = record {
-  ready : IsReady g.R.Object.fits l.objects.reader l.objects.rest l.objects.slot;
+  ready : IsReady g.R.Object.right g.R.Object.fits l.objects.reader l.objects.rest l.objects.slot;
   same : l.objects.reader ≡ l.fn.objects.reader;
   so_far : all_behind l.list (left_of (g.R.Object.at l.fn.objects.reader) g.R.Object.rest l.objects.rest)
       ≡ all (left_of (g.R.Object.at l.fn.objects.reader) g.R.Object.rest l.fn.objects.rest);

@@ -9,7 +9,7 @@ take_known-after-requires g c κs =
     let rest = c.go_on_known.new.rest in
     let right = ap (λ (s : Stream _ _). s.fault) c.go_on_known.ensures.same ∙ c.requires.known in
     let known = block_known read _ _ _ rest.left rest.place c.if-not-go_on_known.ensures.some right in
-    ((refl, tt), (c.go_on_known.ensures.within.place, (c.requires.ready.slot_fits, known)))
+    ((refl, tt), (c.requires.ready.reader_right, (c.go_on_known.ensures.within.place, (c.requires.ready.slot_fits, known))))
 
 pub returns-clause-known : goal.returns-clause-known
 returns-clause-known g c =

@@ -6,7 +6,7 @@ use Rattle.objects.proofs.blocks.Objects.check.Given as goal
 
 abbrev pub invariant-loop : goal.invariant-loop
 invariant-loop g l = record {
-  ready : IsReady g.R.Object.fits l.self.reader l.self.rest l.self.slot;
+  ready : IsReady g.R.Object.right g.R.Object.fits l.self.reader l.self.rest l.self.slot;
   same : l.self.reader ≡ l.fn.self.reader;
   whole : l.self.rest.walk.whole ≡ l.fn.self.rest.walk.whole;
   so_far : outcome (all (left_of (g.R.Object.at l.fn.self.reader) g.R.Object.rest l.self.rest))
