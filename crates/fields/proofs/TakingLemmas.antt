@@ -18,19 +18,19 @@ use Rattle.datum_reading.specs.declared.refusal.DatumRefusal.{DatumRefusal}
 use Rattle.datum_reading.specs.Reading.{fields_at, datum_at}
 use Rattle.datum_reading.specs.Readers.{readers_of, passed}
 use Rattle.datum_reading.specs.Layers.{reads-Rec}
-use Rattle.fields.specs.declared.form.Form.{Form}
-use Rattle.fields.specs.declared.kind.Primitive.{Primitive}
+use Rattle.cell_reading.specs.declared.form.Form.{Form}
+use Rattle.cell_reading.specs.declared.kind.Primitive.{Primitive}
 use Rattle.fields.specs.declared.wanted.Wanted.{Wanted}
-use Rattle.fields.specs.Kind.{Level, Nullable, nullable, primitive_of, holds_as, holds, is_allowed_as, is_allowed}
+use Rattle.cell_reading.specs.Kind.{Level, Nullable, nullable, primitive_of, holds_as, holds, is_allowed_as, is_allowed}
 use Rattle.row_types.specs.declared.cell_ref.CellRef.{CellRef}
 use Rattle.row_types.specs.CellRef.{lent_cell}
-use Rattle.fields.specs.Form.{null_branch, form_with, form_as, form_of}
+use Rattle.cell_reading.specs.Form.{null_branch, form_with, form_as, form_of}
 use Rattle.fields.specs.declared.refusal.FieldRefusal.{FieldRefusal}
 use Rattle.fields.specs.Flat.{Leaf, leaves, flat_values, leaf_readers}
 use Rattle.fields.specs.Kept.{kept, kept_values, slots, slot_at}
 use Rattle.fields.proofs.FlatLaws.{all_flat, leaves_read}
 use Rattle.fields.proofs.KeptLaws.{some_is, leaf_takes, kept_of, is_kept, slot_is, kept_read}
-use Rattle.fields.specs.Value.{cell_of, values_of_level, values_of}
+use Rattle.cell_reading.specs.Value.{cell_of, values_of_level, values_of}
 use Rattle.fields.specs.Wanted.{fields_of_level, fields_of, check_nulls, Found, is_this, find_from, find, source_as, source, cell_at, cells_with, is_none}
 use Rattle.fields.specs.Record.{datum_refusal, forms_of, start, record_at, read_as, read_cells, field_as, fields_as, kept_cells, value_as, pick, place_in}
 

@@ -7,8 +7,8 @@ use Rattle.schema_tree.specs.declared.schema.Field.{Field, out-Field}
 use Rattle.datum_tree.specs.declared.datum.Datum.{Datum}
 use Rattle.datum_reading.specs.Reading.{Reader, datum_at}
 use Rattle.fields.specs.declared.leaf.Leaf.{Leaf as LentLeaf}
-use Rattle.fields.specs.Kind.{Level}
-use Rattle.fields.specs.Value.{values_of}
+use Rattle.cell_reading.specs.Kind.{Level}
+use Rattle.cell_reading.specs.Value.{values_of}
 
 -- a field of a record, or one of a record that stands in a field of it: the outer field's id, its own id, and its type
 pub record Leaf : Type 0 where

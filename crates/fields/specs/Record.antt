@@ -1,6 +1,23 @@
 -- A record, of which some fields are wanted, by a reading and by a relation.
-use Rattle.std.specs.Prelude.{◌≡◌, ℕ, Bool, true, false, List, [], ◌∷◌, length, map, get_or, Option, Some, None,
-  Result, Ok, Err}
+use Rattle.std.specs.Prelude.{
+  ◌≡◌,
+  ℕ,
+  Bool,
+  true,
+  false,
+  List,
+  [],
+  ◌∷◌,
+  length,
+  map,
+  get_or,
+  Option,
+  Some,
+  None,
+  Result,
+  Ok,
+  Err,
+}
 use Rattle.words.specs.Reading.{◌>>=◌, map_refusal, map_value}
 use Rattle.words.specs.Parts.{Stand, Took}
 use Rattle.row_types.specs.declared.cell.Cell.{Cell}
@@ -15,13 +32,13 @@ use Rattle.datum_reading.specs.Reading.{datum_at}
 use Rattle.datum_tree.specs.Spelling.{IsEncoding}
 use Rattle.row_types.specs.declared.cell_ref.CellRef.{CellRef}
 use Rattle.fields.specs.declared.layout.Layout.{Layout}
-use Rattle.fields.specs.declared.form.Form.{Form}
+use Rattle.cell_reading.specs.declared.form.Form.{Form}
 use Rattle.fields.specs.declared.wanted.Wanted.{Wanted}
 use Rattle.fields.specs.declared.refusal.FieldRefusal.{FieldRefusal}
 use Rattle.fields.specs.declared.refusal.FieldRefusal.TheVariants.{MissingField, NoValue, Memory}
-use Rattle.fields.specs.Form.{form_of}
+use Rattle.cell_reading.specs.Form.{form_of}
 use Rattle.row_types.specs.CellRef.{is_null}
-use Rattle.fields.specs.Value.{cell_of, values_of}
+use Rattle.cell_reading.specs.Value.{cell_of, values_of}
 use Rattle.fields.specs.Flat.{Leaf, leaf_of, leaves, flat_values}
 use Rattle.fields.specs.Kept.{kept, kept_values, slots, slot_at}
 use Rattle.fields.specs.Wanted.{fields_of, source, wanted_of, check_missing, check_nulls}
@@ -79,10 +96,10 @@ record_at schema wanted input place = do
 -- what is read is stored so, and what is stored so is read
 pub record RecordAgrees (schema : Schema) (wanted : List Wanted) : Type 0 where
   pub sound : (input : List ℕ) (place : ℕ) (read : List Cell × ℕ) → record_at schema wanted input place ≡ Ok read
-    → Took input place read.1 (Stores schema wanted read.0)
+      → Took input place read.1 (Stores schema wanted read.0)
   pub complete : (input : List ℕ) (place after : ℕ) (cells : List Cell) (bytes : List ℕ)
-    → Stores schema wanted cells bytes → Stand input place after bytes
-    → record_at schema wanted input place ≡ Ok (cells, after)
+      → Stores schema wanted cells bytes → Stand input place after bytes
+      → record_at schema wanted input place ≡ Ok (cells, after)
 
 -- ---- how it is read: every field of a primitive type as a cell
 

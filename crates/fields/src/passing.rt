@@ -4,27 +4,23 @@ ghost use Rattle.std.specs.Prelude.{◌≡◌, ◌≤◌, [], ◌∷◌, length,
 ghost use Rattle.words.specs.Reading.{Gives, never};
 ghost use Rattle.datum_reading.specs.Reading.{fields_at, datum_at};
 ghost use Rattle.fields.specs.Flat.{leaf_of, leaf_readers};
-ghost use Rattle.fields.specs.Form.{form_of};
+ghost use Rattle.cell_reading.specs.Form.{form_of};
 ghost use Rattle.fields.specs.Wanted.{fields_of as fields_in};
 ghost use Rattle.fields.specs.Nulls.{with_null, refused_at};
 ghost use Rattle.fields.specs.Record.{forms_of, field_as, fields_as, value_as, null_as};
 ghost use Rattle.fields.specs.Record.{first_as, passed_at, IsLayout};
 
-use crate::form::Form;
 use crate::layout::Layout;
 use crate::leaf::Leaf;
 use crate::refusal::FieldRefusal;
 use crate::taking::{refusal_of, take_field};
 use crate::wanted::Wanted;
+use cell_reading::Form;
 use datum_reading::{Cursor, DatumRefusal, skip};
 use schema_tree::Schema;
 
 /// The place behind the record at `place`, with the refusals of `take_record`. It builds nothing.
-pub fn pass_record(
-    layout: &Layout<'_>,
-    input: &[u8],
-    place: usize,
-) -> Result<usize, FieldRefusal>
+pub fn pass_record(layout: &Layout<'_>, input: &[u8], place: usize) -> Result<usize, FieldRefusal>
     requires layout { IsLayout layout.now }
     requires start { place ≤ length input.now }
     ensures exact { Gives never (λ after. after) result
@@ -51,11 +47,7 @@ fn refused_at(wanted: &[Wanted], place: usize) -> Result<(), FieldRefusal>
 }
 
 /// Passes all fields, and answers the place of the first required one that is null.
-fn pass_all(
-    layout: &Layout<'_>,
-    input: &[u8],
-    at: Cursor,
-) -> Result<(usize, Cursor), DatumRefusal>
+fn pass_all(layout: &Layout<'_>, input: &[u8], at: Cursor) -> Result<(usize, Cursor), DatumRefusal>
     requires layout { IsLayout layout.now }
     requires start { at.place ≤ length input.now }
     ensures exact { Gives never (λ passed. passed) result
@@ -132,5 +124,9 @@ fn pass_field(
 fn with_null(null: bool, needed: usize, first: usize) -> usize
     ensures { result ≡ with_null null needed first }
 {
-    if null && needed < first { needed } else { first }
+    if null && needed < first {
+        needed
+    } else {
+        first
+    }
 }
