@@ -43,6 +43,8 @@ pub fn take_cell<'a>(
     at: Cursor,
 ) -> Result<(CellRef<'a>, Cursor), DatumRefusal>
     requires { at.place ≤ length input.now }
+    ensures exact { Gives never (λ taken. (lent_cell taken.0, taken.1)) result
+        (form_at form input.now at) }
     // It is the cell of the value that is read under each schema of this form.
     ensures reads { (schema : ASchema) → spec.form_of schema ≡ Some form
         → Gives never (λ taken. (lent_cell taken.0, taken.1)) result
