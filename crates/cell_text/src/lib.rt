@@ -6,14 +6,17 @@
 //! | `escape` | a text as it stands between quotes |
 //! | `digits` | bytes as hexadecimal digits |
 //! | `cell` | a cell |
+//! | `text` | a cell, behind a string |
 #![tactic(auto)]
 
 mod cell;
 mod digits;
 mod escape;
 mod piece;
+mod text;
 
 pub use cell::{most_bytes, put_cell};
 pub use digits::put_digits;
 pub use escape::put_escaped;
 pub use piece::{put_number, put_piece};
+pub use text::push_cell;
