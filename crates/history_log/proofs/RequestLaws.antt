@@ -23,7 +23,7 @@ use Rattle.words.specs.Parts.{behind_is}
 use Rattle.pieces.specs.WordLaws.{byte_again, no_space_first, gap_again, mark_again, end_again}
 use Rattle.pieces.specs.ChoiceLaws.{one_of_again}
 use Rattle.pieces.specs.LiteralLaws.{literal_again}
-use Rattle.row_pred.specs.Cell.{cell_text}
+use Rattle.cell_text.specs.Cell.{cell_text}
 use Rattle.row_pred.specs.Cells.{spaced_text, cells_text, cells_from}
 use Rattle.row_pred.specs.CellLaws.{cell_no_space}
 use Rattle.row_pred.specs.CellsLaws.{cells_again}

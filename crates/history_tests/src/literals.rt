@@ -1,6 +1,9 @@
 //! Literals and hexadecimal bytes by hand.
 
-use pieces::{PieceRefusal, put_hex, put_literal, take_hex, take_literal};
+use avro_wire::Bytes;
+use pieces::{PieceRefusal, put_literal, take_hex, take_literal};
+use row_pred::put_cell;
+use row_types::Cell;
 use std::alloc::{AllocError, Global};
 use std::test::*;
 
@@ -159,7 +162,8 @@ fn first_bytes_printed_otherwise(
 ) -> Result<Option<usize>, AllocError> {
     for number in 0..lines.len() {
         let mut out = String::new(alloc);
-        put_hex(&mut out, lines[number].1)?;
+        let cell = Cell::Bytes(Bytes::from_slice(alloc, lines[number].1)?);
+        put_cell(&mut out, &cell)?;
         if out.as_str() != lines[number].0 {
             return Ok(Some(number));
         }

@@ -8,7 +8,7 @@ ghost use Rattle.lt_port.specs.Faults.{HasCause};
 ghost use Rattle.pieces.specs.Number.{optional_text};
 ghost use Rattle.pieces.specs.Literal.{escape as escape_of, literal_text};
 ghost use Rattle.pieces.specs.HexLiteral.{hex_text};
-ghost use Rattle.row_pred.specs.Cell.{cell_text};
+ghost use Rattle.cell_text.specs.Cell.{cell_text};
 ghost use Rattle.row_pred.specs.Cells.{spaced_text, cells_text};
 ghost use Rattle.row_types.specs.CellRef.{lent_cell};
 ghost use Rattle.lineage_cli.specs.Output.{Puts, Shows};

@@ -3,10 +3,9 @@
 ghost use Rattle.std.specs.Prelude.{◌≡◌, ◌+◌, ◌<◌, ◌≤◌, ℕ, nat_lt, true, List, ◌∷◌, [], ◌++◌, Ok, Some, None, length, drop, slice_get, slice_index, IfOk, OnOk, IfSome, MatchOption};
 ghost use Rattle.std.specs.List.{list_all};
 ghost use Rattle.std.specs.Option.{option_and_then};
-ghost use Rattle.std.specs.String.{string_bytes};
 ghost use Rattle.words.specs.Reading.{Gives};
 ghost use Rattle.pieces.specs.Refusal.{is_memory};
-ghost use Rattle.pieces.specs.HexLiteral.{hex_digit as hex_digit_of, hex_text, pairs_at, hex_at};
+ghost use Rattle.pieces.specs.HexLiteral.{hex_digit as hex_digit_of, pairs_at, hex_at};
 
 use crate::literal::stops_at;
 use crate::refusal::PieceRefusal;
@@ -26,15 +25,6 @@ pub fn take_hex(alloc: Global, text: &str, place: usize) -> Result<(Bytes, usize
     let after = take_pairs(&mut read, text.as_bytes(), start)?;
     let bytes = Bytes::from_slice(alloc, read.as_slice())?;
     Ok((bytes, after))
-}
-
-/// Puts an x and two digits for each byte behind `out`. An `Err` says that memory ran out.
-pub fn put_hex(out: &mut String, bytes: &[u8]) -> Result<(), AllocError>
-    ensures { OnOk result (string_bytes out.new ≡ string_bytes out.old ++ hex_text bytes.now) }
-{
-    let digits = hex::encode(*out.allocator(), bytes)?;
-    out.push_str("x")?;
-    out.push_str(digits.as_str())
 }
 
 /// Puts the bytes of the pairs of digits from `start` on behind `read`: the place after them.

@@ -15,7 +15,7 @@ mod number;
 mod refusal;
 mod word;
 
-pub use hex_literal::{put_hex, take_hex};
+pub use hex_literal::take_hex;
 pub use literal::{put_literal, take_literal};
 pub use number::{
     Passed, Signed, is_absent, put_long, put_optional_long, put_unsigned, take_any_number,

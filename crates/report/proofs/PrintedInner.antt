@@ -22,7 +22,7 @@ use Rattle.history_types.specs.Fits.{IsRun, AreRuns, FitsRequest, FitsEntry}
 use Rattle.pieces.specs.Number.{optional_text}
 use Rattle.pieces.specs.Literal.{literal_text}
 use Rattle.pieces.specs.Decimal.{is_long_or_none}
-use Rattle.row_pred.specs.Cell.{cell_text}
+use Rattle.cell_text.specs.Cell.{cell_text}
 use Rattle.row_pred.specs.Cells.{spaced_text, cells_text}
 use Rattle.row_types.specs.FitsLaws.{number_is_long}
 use Rattle.history_log.specs.Runs.{run_text, next_run_text, runs_text}

@@ -1,7 +1,6 @@
--- A cell as it stands in a text: null, true, false, a number, a text between quotes, or bytes in hexadecimal.
+-- The reader of a cell: null, true, false, a number, a text between quotes, or bytes in hexadecimal.
 use Rattle.std.specs.Prelude.{ℕ, zero, suc, ◌==◌, Bool, true, false, ◌||◌, List, [], ◌∷◌, slice_get, Option, Some}
 use Rattle.std.specs.Prelude.{None, Result, Ok, Err, codes, if◌then◌else◌}
-use Rattle.std.specs.Fmt.{signed_decimal}
 use Rattle.std.specs.Option.{option_map}
 use Rattle.words.specs.Reading.{◌>>=◌, map_refusal, map_value}
 use Rattle.row_types.specs.declared.cell.Cell.{Cell}
@@ -11,26 +10,11 @@ use Rattle.row_types.specs.Fits.{fits}
 use Rattle.pieces.specs.declared.refusal.PieceRefusal.{PieceRefusal}
 use Rattle.pieces.specs.Word.{is_this, one_of}
 use Rattle.pieces.specs.Number.{is_digit, any_number_at}
-use Rattle.pieces.specs.Literal.{literal_text, literal_at}
-use Rattle.pieces.specs.HexLiteral.{hex_text, hex_at}
+use Rattle.pieces.specs.Literal.{literal_at}
+use Rattle.pieces.specs.HexLiteral.{hex_at}
 use Rattle.row_pred.specs.declared.refusal.PredRefusal.{PredRefusal}
 use Rattle.row_pred.specs.declared.refusal.PredRefusal.TheVariants.{Misfit, NotNull}
 use Rattle.row_pred.specs.Refusal.{of_piece}
-
--- ---- as it is printed
-
-abbrev pub flag_text : Bool → List ℕ
-flag_text flag = if flag then codes "true" else codes "false"
-
--- the one text of a cell
-abbrev pub cell_text : Cell → List ℕ
-cell_text Null = codes "null"
-cell_text (Flag flag) = flag_text flag
-cell_text (Num number) = signed_decimal number
-cell_text (Text text) = literal_text text
-cell_text (Bytes bytes) = hex_text bytes
-
--- ---- as it is read
 
 -- the cells that are words
 abbrev pub cell_words : List (List ℕ)

@@ -23,7 +23,8 @@ use Rattle.pieces.specs.ChoiceLaws.{one_of_again}
 use Rattle.pieces.specs.NumberLaws.{decimal_digits, no_digit_at_end, no_digit_first, any_number_again, long_no_space}
 use Rattle.pieces.specs.LiteralLaws.{literal_again}
 use Rattle.pieces.specs.HexLaws.{hex_again}
-use Rattle.row_pred.specs.Cell.{cell_text, cell_words, begins_number, any_cell_at, fitted, cell_at}
+use Rattle.cell_text.specs.Cell.{cell_text}
+use Rattle.row_pred.specs.Cell.{cell_words, begins_number, any_cell_at, fitted, cell_at}
 
 -- ---- what stands behind a cell
 

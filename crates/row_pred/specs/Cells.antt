@@ -8,7 +8,8 @@ use Rattle.row_types.specs.declared.column.Column.{Column}
 use Rattle.pieces.specs.Word.{gap_at, end_at}
 use Rattle.row_pred.specs.declared.refusal.PredRefusal.{PredRefusal}
 use Rattle.row_pred.specs.Refusal.{of_piece}
-use Rattle.row_pred.specs.Cell.{cell_text, cell_at}
+use Rattle.cell_text.specs.Cell.{cell_text}
+use Rattle.row_pred.specs.Cell.{cell_at}
 
 -- ---- as they are printed
 

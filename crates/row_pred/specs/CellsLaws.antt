@@ -10,7 +10,7 @@ use Rattle.row_types.specs.Fits.{fits, fits_row, has_real_bytes, IsRow}
 use Rattle.words.specs.Parts.{behind_is}
 use Rattle.pieces.specs.WordLaws.{gap_again, end_again}
 use Rattle.pieces.specs.Word.{spaces}
-use Rattle.row_pred.specs.Cell.{cell_text}
+use Rattle.cell_text.specs.Cell.{cell_text}
 use Rattle.row_pred.specs.Cells.{spaced_text, cells_text, cells_from, cells_at, cells_of}
 use Rattle.row_pred.specs.CellLaws.{stops, cell_again, cell_no_space}
 

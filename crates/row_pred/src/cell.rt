@@ -10,16 +10,15 @@ ghost use Rattle.pieces.specs.Word.{one_of};
 ghost use Rattle.pieces.specs.Number.{any_number_at};
 ghost use Rattle.pieces.specs.Literal.{literal_at};
 ghost use Rattle.pieces.specs.HexLiteral.{hex_at};
+ghost use Rattle.cell_text.specs.Cell.{cell_text};
 ghost use Rattle.row_pred.specs.Refusal.{is_memory};
-ghost use Rattle.row_pred.specs.Cell.{cell_text, cell_words, word_cell as cell_of_word};
+ghost use Rattle.row_pred.specs.Cell.{cell_words, word_cell as cell_of_word};
 ghost use Rattle.row_pred.specs.Cell.{begins_number as begins, any_cell_at, fitted as fitting};
 ghost use Rattle.row_pred.specs.Cell.{cell_at};
 
 use crate::refusal::PredRefusal;
-use pieces::{
-    PieceRefusal, put_hex, put_literal, put_long, stands, take_any_number, take_hex, take_literal,
-    take_one_of,
-};
+use cell_text::push_cell;
+use pieces::{PieceRefusal, stands, take_any_number, take_hex, take_literal, take_one_of};
 use row_types::{Cell, Column, Kind};
 use std::alloc::{AllocError, Global};
 
@@ -45,13 +44,7 @@ pub fn take_cell(
 pub fn put_cell(out: &mut String, cell: &Cell) -> Result<(), AllocError>
     ensures { OnOk result (string_bytes out.new ≡ string_bytes out.old ++ cell_text cell.now) }
 {
-    match cell {
-        Cell::Null => out.push_str("null"),
-        Cell::Flag(flag) => out.push_str(if *flag { "true" } else { "false" }),
-        Cell::Num(number) => put_long(out, *number),
-        Cell::Text(text) => put_literal(out, text.as_str()),
-        Cell::Bytes(bytes) => put_hex(out, bytes.as_slice()),
-    }
+    push_cell(out, cell.lend())
 }
 
 /// The cell at `place`, whatever its column, and the place after it. `None`: a number that is not

@@ -1,5 +1,9 @@
 //! A cell of a row.
 
+ghost use Rattle.std.specs.Prelude.{◌≡◌};
+ghost use Rattle.row_types.specs.CellRef.{lent_cell};
+
+use crate::cell_ref::CellRef;
 use avro_wire::{Bytes, Text};
 use lists::{Copied, List};
 use std::alloc::{AllocError, Global};
@@ -17,6 +21,21 @@ pub enum Cell {
 
 /// The cells of a row, in the order of the columns.
 pub type Cells = List<Cell>;
+
+impl Cell {
+    /// The cell, lent.
+    pub fn lend(&self) -> CellRef<'_>
+        ensures { lent_cell result ≡ self.now }
+    {
+        match self {
+            Cell::Null => CellRef::Null,
+            Cell::Flag(flag) => CellRef::Flag(*flag),
+            Cell::Num(number) => CellRef::Num(*number),
+            Cell::Text(text) => CellRef::Text(text.as_str()),
+            Cell::Bytes(bytes) => CellRef::Bytes(bytes.as_slice()),
+        }
+    }
+}
 
 impl Copied for Cell {
     fn copy(&self, alloc: Global) -> Result<Cell, AllocError> {

@@ -1,7 +1,7 @@
 use Rattle.std.proofs.Common.{map}
 use Rattle.std.specs.List.{flat_map}
 use Rattle.std.proofs.lemmas.Result.{err_from_is_err_and}
-use Rattle.row_pred.specs.Cell.{cell_text}
+use Rattle.cell_text.specs.Cell.{cell_text}
 use Rattle.row_pred.specs.Cells.{spaced_text}
 use Rattle.row_types.specs.CellRef.{lent_cell}
 use Rattle.lineage_cli.proofs.OutputLemmas.{begins_more}
