@@ -4,8 +4,9 @@ use Rattle.std.specs.Prelude.{if◌then◌else◌}
 use Rattle.std.specs.declared.option.Option.{Option}
 use Rattle.std.proofs.lemmas.List.{drop_more, drop_all, append-nil}
 use Rattle.fields.specs.declared.wanted.Wanted.{Wanted}
-use Rattle.fields.specs.declared.leaf.Leaf.{Leaf as LentLeaf}
-use Rattle.fields.specs.Flat.{Leaf, leaf_of}
+use Rattle.fields.specs.declared.leaf.LentLeaf.{LentLeaf}
+use Rattle.fields.specs.declared.leaf.Leaf.{Leaf}
+use Rattle.fields.specs.Flat.{leaf_of}
 use Rattle.fields.specs.Kept.{is_bare, kept, slot_of, behind_slot, slots}
 use Rattle.fields.specs.Nulls.{first_of, is_at, is_needed, needed_from}
 

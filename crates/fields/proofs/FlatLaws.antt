@@ -17,7 +17,8 @@ use Rattle.datum_reading.specs.Readers.{readers_of}
 use Rattle.datum_reading.specs.Layers.{reads-Rec}
 use Rattle.fields.specs.Kind.{Level}
 use Rattle.fields.specs.Value.{values_of_level, values_of}
-use Rattle.fields.specs.Flat.{Leaf, inner_leaf, leaves_of_level, leaves_of_field, leaves, flat_of_level, flat_values, leaf_readers}
+use Rattle.fields.specs.declared.leaf.Leaf.{Leaf}
+use Rattle.fields.specs.Flat.{inner_leaf, leaves_of_level, leaves_of_field, leaves, flat_of_level, flat_values, leaf_readers}
 
 -- what reading fields answers
 abbrev pub Answer : Type 0

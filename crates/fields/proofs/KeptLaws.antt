@@ -1,6 +1,34 @@
 -- Reading the fields whose values take bytes, one behind the other, is reading all fields.
-use Rattle.std.proofs.Common.{◌≡◌, ℕ, zero, suc, ◌+◌, ◌-◌, true, false, Bool, List, [], ◌∷◌, ◌++◌, map, length, get_or,
-  Result, Ok, Err, refl, sym, ap, ap₂, ◌∙◌, subst, inl, inr, arith}
+use Rattle.std.proofs.Common.{
+  ◌≡◌,
+  ℕ,
+  zero,
+  suc,
+  ◌+◌,
+  ◌-◌,
+  true,
+  false,
+  Bool,
+  List,
+  [],
+  ◌∷◌,
+  ◌++◌,
+  map,
+  length,
+  get_or,
+  Result,
+  Ok,
+  Err,
+  refl,
+  sym,
+  ap,
+  ap₂,
+  ◌∙◌,
+  subst,
+  inl,
+  inr,
+  arith,
+}
 use Rattle.std.specs.Prelude.{slice_get, slice_range, nat_lt, is_some, ◌&&◌, ◌==◌, if◌then◌else◌}
 use Rattle.std.specs.declared.option.Option.{Option}
 use Rattle.std.specs.declared.option.Option.TheVariants.{Some, None}
@@ -23,7 +51,8 @@ use Rattle.datum_reading.specs.Layers.{reads-Null, reads-Fixed, reads-Rec}
 use Rattle.datum_reading.specs.Readers.{readers_of}
 use Rattle.fields.specs.Kind.{Level, nullable_level}
 use Rattle.fields.specs.Form.{form_as, form_of}
-use Rattle.fields.specs.Flat.{Leaf, leaf_readers}
+use Rattle.fields.specs.declared.leaf.Leaf.{Leaf}
+use Rattle.fields.specs.Flat.{leaf_readers}
 use Rattle.fields.specs.Kept.{empty_of, empty_field, is_empty, are_empty, is_bare, kept, kept_values, slot_of, behind_slot, slots}
 use Rattle.fields.proofs.FlatLaws.{Answer, behind, bind_same, read_behind}
 
@@ -198,18 +227,18 @@ kept_read [] input at = kept_none input at
 kept_read (leaf ∷ leaves) input at =
     elim (cases_Bool (is_bare leaf)) [
       | inl bare ↦
-        let nothing = bare_reads leaf bare input at in
-        ap (λ (ls : List Leaf). fields_at (leaf_readers ls) [] input at) (kept_bare leaf leaves bare)
-        ∙ kept_read leaves input at
-        ∙ left_out leaf leaves nothing.value (fields_at (leaf_readers leaves) [] input at) bare
-        ∙ ap (λ r. kept_of (leaf ∷ leaves) (r >>= λ r. behind (r.0 ∷ []) (fields_at (leaf_readers leaves) [] input r.1))) (sym nothing.is)
-        ∙ ap (kept_of (leaf ∷ leaves)) (sym (first_behind leaf leaves input at))
+          let nothing = bare_reads leaf bare input at in
+          ap (λ (ls : List Leaf). fields_at (leaf_readers ls) [] input at) (kept_bare leaf leaves bare)
+          ∙ kept_read leaves input at
+          ∙ left_out leaf leaves nothing.value (fields_at (leaf_readers leaves) [] input at) bare
+          ∙ ap (λ r. kept_of (leaf ∷ leaves) (r >>= λ r. behind (r.0 ∷ []) (fields_at (leaf_readers leaves) [] input r.1))) (sym nothing.is)
+          ∙ ap (kept_of (leaf ∷ leaves)) (sym (first_behind leaf leaves input at))
       | inr takes ↦
-        ap (λ (ls : List Leaf). fields_at (leaf_readers ls) [] input at) (kept_takes leaf leaves takes)
-        ∙ first_behind leaf (kept leaves) input at
-        ∙ bind_same (datum_at leaf.schema input at) _ _ (λ r. ap (behind (r.0 ∷ [])) (kept_read leaves input r.1))
-        ∙ kept_then leaf leaves (datum_at leaf.schema input at) (λ a. fields_at (leaf_readers leaves) [] input a) takes
-        ∙ ap (kept_of (leaf ∷ leaves)) (sym (first_behind leaf leaves input at))
+          ap (λ (ls : List Leaf). fields_at (leaf_readers ls) [] input at) (kept_takes leaf leaves takes)
+          ∙ first_behind leaf (kept leaves) input at
+          ∙ bind_same (datum_at leaf.schema input at) _ _ (λ r. ap (behind (r.0 ∷ [])) (kept_read leaves input r.1))
+          ∙ kept_then leaf leaves (datum_at leaf.schema input at) (λ a. fields_at (leaf_readers leaves) [] input a) takes
+          ∙ ap (kept_of (leaf ∷ leaves)) (sym (first_behind leaf leaves input at))
     ]
 
 -- ---- places

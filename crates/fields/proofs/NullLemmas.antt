@@ -52,4 +52,3 @@ no_null_left wanted cells place all = rw (drop_all place wanted all) refl
 
 -- these steps
 pub ruleset null_steps = (null_here, no_null_here, no_null_left)
-

@@ -26,7 +26,8 @@ use Rattle.fields.specs.declared.refusal.FieldRefusal.TheVariants.{MissingField}
 use Rattle.fields.specs.declared.form.Form.{Form}
 use Rattle.fields.specs.Kind.{Level}
 use Rattle.fields.specs.Form.{form_of}
-use Rattle.fields.specs.Flat.{Leaf, leaves, leaf_readers}
+use Rattle.fields.specs.declared.leaf.Leaf.{Leaf}
+use Rattle.fields.specs.Flat.{leaves, leaf_readers}
 use Rattle.fields.specs.Kept.{kept, kept_values}
 use Rattle.fields.specs.Wanted.{fields_of_level, fields_of, source, is_none, check_missing, check_nulls}
 use Rattle.fields.specs.Nulls.{first_of, is_at, needed_from, with_null, with_nulls, refused_at}
@@ -52,9 +53,9 @@ first_never [] sources = refl
 first_never (w ∷ wanted) [] = refl
 first_never (w ∷ wanted) (s ∷ sources) = never_here w.required (first_of (λ s. false) wanted sources) ∙ ap suc (first_never wanted sources)
   where
-  never_here : (r : Bool) (n : ℕ) → (if r && false then 0 else suc n) ≡ suc n
-  never_here true n = refl
-  never_here false n = refl
+    never_here : (r : Bool) (n : ℕ) → (if r && false then 0 else suc n) ≡ suc n
+    never_here true n = refl
+    never_here false n = refl
 
 -- the lesser of a number and itself
 lesser_same : (test : Bool) (n : ℕ) → n ≡ (if test then n else n)
@@ -67,9 +68,9 @@ lesser_suc false a b = refl
 
 lt_suc : (a b : ℕ) → nat_lt a b ≡ nat_lt (suc a) (suc b)
 lt_suc a b = elim (cases_Bool (nat_lt a b)) [
-    | inl less ↦ less ∙ sym (lt-ltb (suc a) (suc b) (omega (arith, ltb-true a b less)))
-    | inr more ↦ more ∙ sym (le-ltb (suc a) (suc b) (omega (arith, ltb-false a b more)))
-  ]
+  | inl less ↦ less ∙ sym (lt-ltb (suc a) (suc b) (omega (arith, ltb-true a b less)))
+  | inr more ↦ more ∙ sym (le-ltb (suc a) (suc b) (omega (arith, ltb-false a b more)))
+]
 
 -- the lesser of two numbers, and of those behind them
 lesser_behind : (a b n : ℕ) → n ≡ with_null true a b → suc n ≡ with_null true (suc a) (suc b)
@@ -179,13 +180,13 @@ null_there (cell ∷ read) place zero within =
     rw (here place (place + 0) (omega arith), null_before (place + 1) (place + 0) read (omega arith)) (sym (or_false (is_null cell)))
 null_there (cell ∷ read) place (suc index) within =
     rw (more_not (place + suc index) place (omega arith))
-      (next_there read place index (null_there read (place + 1) index (omega (arith, within))))
+    (next_there read place index (null_there read (place + 1) index (omega (arith, within))))
   where
-  next_there : (read : List Cell) (place index : ℕ) → null_from (place + 1) read (Some (place + 1 + index)) ≡ is_null (get_or read index cells.Null)
-      → null_from (place + 1) read (Some (place + suc index)) ≡ is_null (get_or read index cells.Null)
-  next_there read place index there =
-      let same : place + suc index ≡ place + 1 + index = omega arith in
-      ap (λ (n : ℕ). null_from (place + 1) read (Some n)) same ∙ there
+    next_there : (read : List Cell) (place index : ℕ) → null_from (place + 1) read (Some (place + 1 + index)) ≡ is_null (get_or read index cells.Null)
+        → null_from (place + 1) read (Some (place + suc index)) ≡ is_null (get_or read index cells.Null)
+    next_there read place index there =
+        let same : place + suc index ≡ place + 1 + index = omega arith in
+        ap (λ (n : ℕ). null_from (place + 1) read (Some n)) same ∙ there
 
 -- the cell of a source
 source_null : (read : List Cell) (source : Option ℕ) → IsPlaced (length read) source → null_from 0 read source ≡ is_null (pick read source)
@@ -211,10 +212,10 @@ check_one w wanted others cell test first true is same rest =
     ∙ one_is w wanted others (is_null cell) first rest
     ∙ ap (λ (b : Bool). refused_at (w ∷ wanted) (if b then 0 else suc first)) (sym (same refl))
   where
-  one_is : (w : Wanted) (wanted : List Wanted) (others : List Cell) (null : Bool) (first : ℕ) → check_nulls wanted others ≡ refused_at wanted first
-      → (if null then Err (MissingField w.id) else check_nulls wanted others) ≡ refused_at (w ∷ wanted) (if null then 0 else suc first)
-  one_is w wanted others true first rest = refl
-  one_is w wanted others false first rest = rest
+    one_is : (w : Wanted) (wanted : List Wanted) (others : List Cell) (null : Bool) (first : ℕ) → check_nulls wanted others ≡ refused_at wanted first
+        → (if null then Err (MissingField w.id) else check_nulls wanted others) ≡ refused_at (w ∷ wanted) (if null then 0 else suc first)
+    one_is w wanted others true first rest = refl
+    one_is w wanted others false first rest = rest
 
 -- the first required field that is null is refused
 pub check_first : (read : List Cell) (wanted : List Wanted) (sources : List (Option ℕ)) → length sources ≡ length wanted → Placed (length read) wanted sources
@@ -224,7 +225,7 @@ check_first read [] sources each placed = refl
 check_first read (w ∷ wanted) [] each placed = absurd (omega (arith, each))
 check_first read (w ∷ wanted) (s ∷ sources) each placed =
     check_one w wanted (map (pick read) sources) (pick read s) (null_from 0 read s) (first_of (null_from 0 read) wanted sources) w.required refl (λ required. source_null read s (placed.0 required))
-      (check_first read wanted sources (omega (arith, each)) placed.1)
+    (check_first read wanted sources (omega (arith, each)) placed.1)
 
 -- ---- what is there
 
@@ -232,10 +233,10 @@ there_first : (fields : List Leaf) (w : Wanted) (wanted : List Wanted) → check
 unfolding check_missing
 there_first fields w wanted there = there_as (MissingField w.id) (check_missing fields wanted) w.required (is_none (source fields w)) there
   where
-  there_as : (e : FieldRefusal) (rest : Result (Unit {0}) FieldRefusal) (required none : Bool) → (if required && none then Err e else rest) ≡ Ok tt → (required ≡ true → none ≡ false) × (rest ≡ Ok tt)
-  there_as e rest true true is = absurd cc
-  there_as e rest true false is = ((λ _. refl), is)
-  there_as e rest false none is = ((λ wrong. absurd (false≢true wrong)), is)
+    there_as : (e : FieldRefusal) (rest : Result (Unit {0}) FieldRefusal) (required none : Bool) → (if required && none then Err e else rest) ≡ Ok tt → (required ≡ true → none ≡ false) × (rest ≡ Ok tt)
+    there_as e rest true true is = absurd cc
+    there_as e rest true false is = ((λ _. refl), is)
+    there_as e rest false none is = ((λ wrong. absurd (false≢true wrong)), is)
 
 pub all_placed : (fields : List Leaf) (wanted : List Wanted) → check_missing fields wanted ≡ Ok tt → Placed (length (kept fields)) wanted (map (place_in fields) wanted)
 all_placed fields [] there = tt
@@ -254,8 +255,8 @@ fields_long [] before input at read is =
     sym (ap (λ (p : List Datum × Cursor). length p.0) same) ∙ none
 fields_long (reader ∷ readers) before input at read is =
     bind_then (reader input at) _ read is (λ x _ rest.
-      let inner = fields_long readers (before ++ x.0 ∷ []) input x.1 read rest in
-      omega (arith, inner, length-append before (x.0 ∷ [])))
+    let inner = fields_long readers (before ++ x.0 ∷ []) input x.1 read rest in
+    omega (arith, inner, length-append before (x.0 ∷ [])))
 
 -- a cell for each field
 cells_long : (fields : List Leaf) (values : List Datum) → length values ≡ length fields → length (read_cells fields values) ≡ length fields
@@ -279,8 +280,8 @@ wide_record schema name fields input at read after is got =
     let all = kept (leaves (fields_of schema)) in
     let as_fields = sym (record_as schema name fields input at is) ∙ got in
     map_then (λ (r : List Datum × Cursor). (read_cells all r.0, r.1)) (fields_at (leaf_readers all) [] input at) (read, after) as_fields (λ x was view.
-      let long = fields_long (leaf_readers all) [] input at x was in
-      sym (ap (λ (p : List Cell × Cursor). length p.0) view) ∙ cells_long all x.0 (omega (arith, long, leaves_long all)))
+    let long = fields_long (leaf_readers all) [] input at x was in
+    sym (ap (λ (p : List Cell × Cursor). length p.0) view) ∙ cells_long all x.0 (omega (arith, long, leaves_long all)))
 
 -- those of a value without fields
 wide_none : (fields : List Field) (answer : Result (Datum × Cursor) DatumRefusal) (read : List Cell) (after : Cursor) → fields ≡ [] → value_as fields answer ≡ Ok (read, after) → length read ≡ length (kept (leaves fields))
@@ -321,19 +322,19 @@ first_read : (schema : Schema) (wanted : List Wanted) (sources : List (Option �
     → first_as (length wanted) needed (whole schema input at) ≡ Ok (first, after) → ReadFirst schema wanted sources input at first after
 first_read schema wanted sources needed many input at first after sources_are needed_are many_is there got =
     map_then (λ (r : List Cell × Cursor). (with_nulls (length wanted) needed r.0, r.1)) (whole schema input at) (first, after) got (λ x was view.
-      let behind : x.1 ≡ after = ap (λ (p : ℕ × Cursor). p.1) view in
-      let wide : length x.0 ≡ many = wide_level schema (out-Schema schema) refl input at x.0 x.1 was ∙ sym many_is in
-      let found : with_nulls (length wanted) needed x.0 ≡ first = ap (λ (p : ℕ × Cursor). p.0) view in
-      let nulls : first_of (null_from 0 x.0) wanted sources ≡ first =
-          sym (ap (λ (ns : List ℕ). with_nulls (length wanted) ns x.0) needed_are ∙ nulls_read x.0 many wanted sources (omega (arith, wide))) ∙ found in
-      let placed : Placed (length x.0) wanted sources =
-          subst (λ (ss : List (Option ℕ)). Placed (length x.0) wanted ss) (sym sources_are) (subst (λ (n : ℕ). Placed n wanted (map (place_in (leaves (fields_of schema))) wanted)) (sym (wide ∙ many_is)) (all_placed (leaves (fields_of schema)) wanted there)) in
-      let each : length sources ≡ length wanted = ap length sources_are ∙ length-map wanted (place_in (leaves (fields_of schema))) in
-      record {
-        read = x.0;
-        is = was ∙ ap (λ (c : Cursor). Ok (x.0, c)) behind;
-        same = check_first x.0 wanted sources each placed ∙ ap (refused_at wanted) nulls;
-      })
+    let behind : x.1 ≡ after = ap (λ (p : ℕ × Cursor). p.1) view in
+    let wide : length x.0 ≡ many = wide_level schema (out-Schema schema) refl input at x.0 x.1 was ∙ sym many_is in
+    let found : with_nulls (length wanted) needed x.0 ≡ first = ap (λ (p : ℕ × Cursor). p.0) view in
+    let nulls : first_of (null_from 0 x.0) wanted sources ≡ first =
+    sym (ap (λ (ns : List ℕ). with_nulls (length wanted) ns x.0) needed_are ∙ nulls_read x.0 many wanted sources (omega (arith, wide))) ∙ found in
+    let placed : Placed (length x.0) wanted sources =
+    subst (λ (ss : List (Option ℕ)). Placed (length x.0) wanted ss) (sym sources_are) (subst (λ (n : ℕ). Placed n wanted (map (place_in (leaves (fields_of schema))) wanted)) (sym (wide ∙ many_is)) (all_placed (leaves (fields_of schema)) wanted there)) in
+    let each : length sources ≡ length wanted = ap length sources_are ∙ length-map wanted (place_in (leaves (fields_of schema))) in
+    record {
+      read = x.0;
+      is = was ∙ ap (λ (c : Cursor). Ok (x.0, c)) behind;
+      same = check_first x.0 wanted sources each placed ∙ ap (refused_at wanted) nulls;
+    })
 
 -- a record that is right
 pub pass_right : (schema : Schema) (wanted : List Wanted) (sources : List (Option ℕ)) (needed : List ℕ) (many : ℕ) (input : List ℕ) (place first : ℕ) (after : Cursor)

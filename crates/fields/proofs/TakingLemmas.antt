@@ -26,7 +26,8 @@ use Rattle.row_types.specs.declared.cell_ref.CellRef.{CellRef}
 use Rattle.row_types.specs.CellRef.{lent_cell}
 use Rattle.fields.specs.Form.{null_branch, form_with, form_as, form_of}
 use Rattle.fields.specs.declared.refusal.FieldRefusal.{FieldRefusal}
-use Rattle.fields.specs.Flat.{Leaf, leaves, flat_values, leaf_readers}
+use Rattle.fields.specs.declared.leaf.Leaf.{Leaf}
+use Rattle.fields.specs.Flat.{leaves, flat_values, leaf_readers}
 use Rattle.fields.specs.Kept.{kept, kept_values, slots, slot_at}
 use Rattle.fields.proofs.FlatLaws.{all_flat, leaves_read}
 use Rattle.fields.proofs.KeptLaws.{some_is, leaf_takes, kept_of, is_kept, slot_is, kept_read}

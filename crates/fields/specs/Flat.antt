@@ -6,15 +6,10 @@ use Rattle.schema_tree.specs.declared.schema.Schema.TheOpen.{Rec}
 use Rattle.schema_tree.specs.declared.schema.Field.{Field, out-Field}
 use Rattle.datum_tree.specs.declared.datum.Datum.{Datum}
 use Rattle.datum_reading.specs.Reading.{Reader, datum_at}
-use Rattle.fields.specs.declared.leaf.Leaf.{Leaf as LentLeaf}
+use Rattle.fields.specs.declared.leaf.Leaf.{Leaf}
+use Rattle.fields.specs.declared.leaf.LentLeaf.{LentLeaf}
 use Rattle.fields.specs.Kind.{Level}
 use Rattle.fields.specs.Value.{values_of}
-
--- a field of a record, or one of a record that stands in a field of it: the outer field's id, its own id, and its type
-pub record Leaf : Type 0 where
-  pub parent : Option ℤ
-  pub id : Option ℤ
-  pub schema : Schema
 
 -- the fields of a record that stands in a field
 abbrev pub inner_leaf : Option ℤ → Field → Leaf
@@ -43,7 +38,7 @@ flat_values (field ∷ fields) [] = []
 flat_values (field ∷ fields) (value ∷ values) =
     flat_of_level (out-Schema (out-Field field).schema) value ++ flat_values fields values
 
--- a leaf that is lent
+-- what a leaf that is lent is
 abbrev pub leaf_of : LentLeaf → Leaf
 leaf_of leaf = record { parent = leaf.parent; id = leaf.id; schema = leaf.schema.now }
 

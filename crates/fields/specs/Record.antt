@@ -1,6 +1,23 @@
 -- A record, of which some fields are wanted, by a reading and by a relation.
-use Rattle.std.specs.Prelude.{◌≡◌, ℕ, Bool, true, false, List, [], ◌∷◌, length, map, get_or, Option, Some, None,
-  Result, Ok, Err}
+use Rattle.std.specs.Prelude.{
+  ◌≡◌,
+  ℕ,
+  Bool,
+  true,
+  false,
+  List,
+  [],
+  ◌∷◌,
+  length,
+  map,
+  get_or,
+  Option,
+  Some,
+  None,
+  Result,
+  Ok,
+  Err,
+}
 use Rattle.words.specs.Reading.{◌>>=◌, map_refusal, map_value}
 use Rattle.words.specs.Parts.{Stand, Took}
 use Rattle.row_types.specs.declared.cell.Cell.{Cell}
@@ -22,7 +39,8 @@ use Rattle.fields.specs.declared.refusal.FieldRefusal.TheVariants.{MissingField,
 use Rattle.fields.specs.Form.{form_of}
 use Rattle.row_types.specs.CellRef.{is_null}
 use Rattle.fields.specs.Value.{cell_of, values_of}
-use Rattle.fields.specs.Flat.{Leaf, leaf_of, leaves, flat_values}
+use Rattle.fields.specs.declared.leaf.Leaf.{Leaf}
+use Rattle.fields.specs.Flat.{leaves, flat_values}
 use Rattle.fields.specs.Kept.{kept, kept_values, slots, slot_at}
 use Rattle.fields.specs.Wanted.{fields_of, source, wanted_of, check_missing, check_nulls}
 use Rattle.fields.specs.Nulls.{needed_from, with_nulls}
@@ -79,10 +97,10 @@ record_at schema wanted input place = do
 -- what is read is stored so, and what is stored so is read
 pub record RecordAgrees (schema : Schema) (wanted : List Wanted) : Type 0 where
   pub sound : (input : List ℕ) (place : ℕ) (read : List Cell × ℕ) → record_at schema wanted input place ≡ Ok read
-    → Took input place read.1 (Stores schema wanted read.0)
+      → Took input place read.1 (Stores schema wanted read.0)
   pub complete : (input : List ℕ) (place after : ℕ) (cells : List Cell) (bytes : List ℕ)
-    → Stores schema wanted cells bytes → Stand input place after bytes
-    → record_at schema wanted input place ≡ Ok (cells, after)
+      → Stores schema wanted cells bytes → Stand input place after bytes
+      → record_at schema wanted input place ≡ Ok (cells, after)
 
 -- ---- how it is read: every field of a primitive type as a cell
 
@@ -144,11 +162,11 @@ passed_at schema wanted input place = map_value (λ read. read.1) (record_at sch
 
 -- a layout is one for its schema and for what is wanted
 pub record IsLayout (layout : Layout) : Type 0 where
-  pub leaves_are : map leaf_of layout.leaves.items ≡ kept (leaves (fields_of layout.schema.now))
-  pub forms : layout.forms.items ≡ forms_of (kept (leaves (fields_of layout.schema.now)))
-  pub sources : layout.sources.items ≡ map (place_in (leaves (fields_of layout.schema.now))) layout.wanted.now
-  pub needed : layout.needed.items ≡ needed_from layout.wanted.now layout.sources.items 0 (length layout.leaves.items)
-  pub there : check_missing (leaves (fields_of layout.schema.now)) layout.wanted.now ≡ Ok tt
+  pub leaves_are : layout.leaves.items ≡ kept (leaves (fields_of layout.schema))
+  pub forms : layout.forms.items ≡ forms_of (kept (leaves (fields_of layout.schema)))
+  pub sources : layout.sources.items ≡ map (place_in (leaves (fields_of layout.schema))) layout.wanted.items
+  pub needed : layout.needed.items ≡ needed_from layout.wanted.items layout.sources.items 0 (length layout.leaves.items)
+  pub there : check_missing (leaves (fields_of layout.schema)) layout.wanted.items ≡ Ok tt
 
 -- there is room for a cell of each field that takes bytes, and for each that is wanted
 pub record IsWide (layout : Layout) (all wanted : List CellRef) : Type 0 where

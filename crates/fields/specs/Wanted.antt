@@ -1,7 +1,26 @@
 -- Which field of a record holds what is wanted: the first one with the id, if its type is an allowed one.
 -- Iceberg spec, "Column Projection".
-use Rattle.std.specs.Prelude.{ℕ, ◌+◌, ℤ, Bool, true, false, ◌&&◌, List, [], ◌∷◌, map, Option, Some, None, Result, Ok,
-  Err, slice_get, if◌then◌else◌}
+use Rattle.std.specs.Prelude.{
+  ℕ,
+  ◌+◌,
+  ℤ,
+  Bool,
+  true,
+  false,
+  ◌&&◌,
+  List,
+  [],
+  ◌∷◌,
+  map,
+  Option,
+  Some,
+  None,
+  Result,
+  Ok,
+  Err,
+  slice_get,
+  if◌then◌else◌,
+}
 use Rattle.std.specs.Ordering.{int_eq}
 use Rattle.row_types.specs.declared.cell.Cell.{Cell}
 use Rattle.row_types.specs.declared.cell.Cell.TheVariants as cells
@@ -14,7 +33,8 @@ use Rattle.fields.specs.declared.wanted.Wanted.{Wanted}
 use Rattle.fields.specs.declared.refusal.FieldRefusal.{FieldRefusal}
 use Rattle.fields.specs.declared.refusal.FieldRefusal.TheVariants.{MissingField}
 use Rattle.fields.specs.Kind.{Level, is_allowed}
-use Rattle.fields.specs.Flat.{Leaf, leaves, flat_values}
+use Rattle.fields.specs.declared.leaf.Leaf.{Leaf}
+use Rattle.fields.specs.Flat.{leaves, flat_values}
 use Rattle.row_types.specs.CellRef.{is_null}
 use Rattle.fields.specs.Value.{cell_of, values_of}
 
