@@ -1,5 +1,6 @@
 -- A cell that is read by its form is that of the value which is read under the type.
-use Rattle.std.proofs.Common.{◌≡◌, ℕ, zero, suc, List, [], ◌∷◌, Bool, true, false, Option, Ok, Err, Result, refl, sym, ap, ◌∙◌, subst, arith, inl, inr}
+use Rattle.std.proofs.Common.{◌≡◌, ℕ, zero, suc, List, [], ◌∷◌, Bool, true, false, Option, Ok, Err, Result, refl, sym}
+use Rattle.std.proofs.Common.{ap, ◌∙◌, subst, arith, inl, inr}
 use Rattle.std.specs.Prelude.{◌==◌, ℤ, pos, negsuc, Some, None, slice_get, if◌then◌else◌}
 use Rattle.std.proofs.lemmas.Option.{none-some}
 use Rattle.std.proofs.lemmas.Bool.{cases_Bool, false≢true, le-ltb}
@@ -16,7 +17,8 @@ use Rattle.datum_tree.specs.declared.datum.Datum.TheVariants as datums
 use Rattle.datum_tree.specs.declared.datum.Datum.{Datum, out-Datum}
 use Rattle.datum_reading.specs.declared.refusal.DatumRefusal.{DatumRefusal}
 use Rattle.datum_reading.specs.Reading.{flag_at, number_from, num_at, choice_at, within, branch_at, datum_at}
-use Rattle.datum_reading.specs.Layers.{reads-Null, reads-Boolean, reads-Int, reads-Long, reads-Raw, reads-Str, reads-Union}
+use Rattle.datum_reading.specs.Layers.{reads-Null, reads-Boolean, reads-Int, reads-Long, reads-Raw, reads-Str}
+use Rattle.datum_reading.specs.Layers.{reads-Union}
 use Rattle.fields.specs.declared.form.Form.{Form}
 use Rattle.fields.specs.declared.kind.Primitive.{Primitive}
 use Rattle.fields.specs.Kind.{Level, nullable_level, of_branches, beside_null, is_null, primitive_of}

@@ -4,5 +4,6 @@ pub mod Form
 pub mod Flat
 pub mod Kept
 pub mod Wanted
+pub mod AloneLaws
 pub mod Nulls
 pub mod Record

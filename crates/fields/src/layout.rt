@@ -5,7 +5,7 @@ ghost use Rattle.words.specs.Reading.{Gives};
 ghost use Rattle.fields.specs.Flat.{leaf_of, leaves};
 ghost use Rattle.fields.specs.Kept.{kept, slot_at};
 ghost use Rattle.fields.specs.Nulls.{first_of, is_at, is_needed, needed_from};
-ghost use Rattle.fields.specs.Wanted.{fields_of as fields_in, source as source_in};
+ghost use Rattle.fields.specs.Wanted.{fields_of as fields_in, opens, source as source_in};
 ghost use Rattle.fields.specs.Wanted.{check_missing as missing_in};
 ghost use Rattle.fields.specs.Record.{is_memory, place_in, forms_of as forms_in, IsLayout};
 
@@ -21,7 +21,7 @@ use std::alloc::{AllocError, Global};
 pub struct Layout {
     pub wanted: Vec<Wanted>,
     pub schema: Schema,
-    /// Its fields, and those of the records in it, whose values take bytes.
+    /// Its fields, and those of the opened records in it, whose values take bytes.
     pub leaves: Vec<Leaf>,
     /// For each of them how its cells are read.
     pub forms: Vec<Option<Form>>,
@@ -35,7 +35,7 @@ pub struct Layout {
 /// the order of `wanted`, is refused.
 pub fn lay_out(alloc: Global, schema: Schema, wanted: Vec<Wanted>) -> Result<Layout, FieldRefusal>
     ensures missing { Gives is_memory (λ _. tt) result
-        (missing_in (leaves (fields_in schema)) wanted.items) }
+        (missing_in (leaves (opens wanted.items) (fields_in schema)) wanted.items) }
     ensures schema { IfOk result (λ layout. layout.schema ≡ schema) }
     ensures wanted { IfOk result (λ layout. layout.wanted.items ≡ wanted.items) }
     ensures right { IfOk result IsLayout }
@@ -63,17 +63,17 @@ struct Plan {
 /// The plan of a layout.
 fn plan_of(alloc: Global, schema: &Schema, wanted: &[Wanted]) -> Result<Plan, FieldRefusal>
     ensures missing { Gives is_memory (λ _. tt) result
-        (missing_in (leaves (fields_in schema.now)) wanted.now) }
+        (missing_in (leaves (opens wanted.now) (fields_in schema.now)) wanted.now) }
     ensures leaves { IfOk result (λ plan.
-        plan.leaves.items ≡ kept (leaves (fields_in schema.now))) }
+        plan.leaves.items ≡ kept (leaves (opens wanted.now) (fields_in schema.now))) }
     ensures forms { IfOk result (λ plan.
-        plan.forms.items ≡ forms_in (kept (leaves (fields_in schema.now)))) }
+        plan.forms.items ≡ forms_in (kept (leaves (opens wanted.now) (fields_in schema.now)))) }
     ensures sources { IfOk result (λ plan.
-        plan.sources.items ≡ map (place_in (leaves (fields_in schema.now))) wanted.now) }
+        plan.sources.items ≡ map (place_in (leaves (opens wanted.now) (fields_in schema.now))) wanted.now) }
     ensures needed { IfOk result (λ plan. plan.needed.items
         ≡ needed_from wanted.now plan.sources.items 0 (length plan.leaves.items)) }
 {
-    let all = leaves_of(alloc, fields_of(schema))?;
+    let all = leaves_of(alloc, fields_of(schema), wanted)?;
     check_missing(&all, wanted)?;
     let sources = sources_of(alloc, &all, wanted)?;
     let leaves = kept_of(alloc, &all)?;

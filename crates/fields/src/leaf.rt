@@ -1,10 +1,12 @@
 //! The fields of a record, and of the records in it.
 
-ghost use Rattle.std.specs.Prelude.{◌≡◌, [], ◌∷◌, ◌+◌, ◌<◌, ◌^◌, ◌++◌, map, IfOk};
-ghost use Rattle.fields.specs.Flat.{leaf_of, inner_leaf, leaves_of_field, leaves};
+ghost use Rattle.std.specs.Prelude.{◌≡◌, [], ◌∷◌, ◌+◌, ◌<◌, ◌^◌, ◌++◌, map, true, None, IfOk};
+ghost use Rattle.fields.specs.Flat.{leaf_of, inner_leaf, leaves_if, leaves_of_field, leaves};
+ghost use Rattle.fields.specs.Wanted.{opens};
 ghost use Rattle.fields.specs.Kept.{kept, slots, slot_of, behind_slot};
 
 use crate::empty::is_empty;
+use crate::wanted::{Wanted, opens};
 use lists::Copied;
 use schema_tree::{Field, Schema};
 use std::alloc::{AllocError, Global};
@@ -27,33 +29,59 @@ pub struct LentLeaf<'s> {
     pub schema: &'s Schema,
 }
 
-/// The fields of a record, and in their places those of the records in it.
-pub fn leaves_of<'s>(alloc: Global, fields: &'s [Field]) -> Result<Vec<LentLeaf<'s>>, AllocError>
-    ensures { IfOk result (λ all. map leaf_of all.items ≡ leaves fields.now) }
+/// The fields of a record, and in their places those of the records in it that have a wanted field.
+pub fn leaves_of<'s>(
+    alloc: Global,
+    fields: &'s [Field],
+    wanted: &[Wanted],
+) -> Result<Vec<LentLeaf<'s>>, AllocError>
+    ensures { IfOk result (λ all. map leaf_of all.items ≡ leaves (opens wanted.now) fields.now) }
 {
     let mut all = Vec::new(alloc);
     for field in fields {
-        push_field(&mut all, field)?;
+        push_field(&mut all, field, wanted)?;
     }
     Ok(all)
 }
 
-/// Adds the field, or the fields of the record that stands in it.
-fn push_field<'s>(all: &mut Vec<LentLeaf<'s>>, field: &'s Field) -> Result<(), AllocError>
+/// Adds the field, or the fields of the record that stands in it, if one of them is wanted.
+fn push_field<'s>(
+    all: &mut Vec<LentLeaf<'s>>,
+    field: &'s Field,
+    wanted: &[Wanted],
+) -> Result<(), AllocError>
     ensures { IfOk result (λ _. map leaf_of all.new.items
-        ≡ map leaf_of all.old.items ++ leaves_of_field field.now) }
+        ≡ map leaf_of all.old.items ++ leaves_of_field (opens wanted.now) field.now) }
+{
+    if opens(wanted, field.id) {
+        push_opened(all, field)
+    } else {
+        push_leaf(all, field)
+    }
+}
+
+/// Adds the fields of the record that stands in the field; the field itself, if none does.
+fn push_opened<'s>(all: &mut Vec<LentLeaf<'s>>, field: &'s Field) -> Result<(), AllocError>
+    ensures { IfOk result (λ _. map leaf_of all.new.items
+        ≡ map leaf_of all.old.items ++ leaves_if true field.now) }
 {
     match &field.schema {
         Schema::Rec { fields, .. } => push_inner(all, field.id, fields.as_slice()),
-        schema => {
-            all.push(LentLeaf {
-                parent: None,
-                id: field.id,
-                schema,
-            })?;
-            Ok(())
-        }
+        _ => push_leaf(all, field),
     }
+}
+
+/// Adds the field itself.
+fn push_leaf<'s>(all: &mut Vec<LentLeaf<'s>>, field: &'s Field) -> Result<(), AllocError>
+    ensures { IfOk result (λ _. map leaf_of all.new.items
+        ≡ map leaf_of all.old.items ++ inner_leaf None field.now ∷ []) }
+{
+    all.push(LentLeaf {
+        parent: None,
+        id: field.id,
+        schema: &field.schema,
+    })?;
+    Ok(())
 }
 
 /// Adds the fields of a record that stands in a field of the id.

@@ -5,7 +5,7 @@ ghost use Rattle.words.specs.Reading.{Gives, never};
 ghost use Rattle.datum_reading.specs.Reading.{fields_at, datum_at};
 ghost use Rattle.fields.specs.Flat.{leaf_readers};
 ghost use Rattle.fields.specs.Form.{form_of};
-ghost use Rattle.fields.specs.Wanted.{fields_of as fields_in};
+ghost use Rattle.fields.specs.Wanted.{fields_of as fields_in, opens};
 ghost use Rattle.fields.specs.Nulls.{with_null, refused_at};
 ghost use Rattle.fields.specs.Record.{forms_of, field_as, fields_as, value_as, null_as};
 ghost use Rattle.fields.specs.Record.{first_as, passed_at, IsLayout};
@@ -52,7 +52,7 @@ fn pass_all(layout: &Layout, input: &[u8], at: Cursor) -> Result<(usize, Cursor)
     requires start { at.place ≤ length input.now }
     ensures exact { Gives never (λ passed. passed) result
         (first_as (length layout.now.wanted.items) layout.now.needed.items
-        (value_as (fields_in layout.now.schema)
+        (value_as (opens layout.now.wanted.items) (fields_in layout.now.schema)
         (datum_at layout.now.schema input.now at))) }
     ensures within { IfOk result (λ passed.
         (at.place ≤ passed.1.place) × (passed.1.place ≤ length input.now)) }

@@ -8,7 +8,7 @@ ghost use Rattle.fields.specs.Flat.{leaf_readers};
 ghost use Rattle.datum_reading.specs.Reading.{fields_at, datum_at};
 ghost use Rattle.fields.specs.declared.wanted.Wanted.{Wanted as AWanted};
 ghost use Rattle.fields.specs.Form.{form_of};
-ghost use Rattle.fields.specs.Wanted.{fields_of as fields_in, source, check_nulls};
+ghost use Rattle.fields.specs.Wanted.{fields_of as fields_in, opens, source, check_nulls};
 ghost use Rattle.fields.specs.Record.{datum_refusal, record_at, forms_of, field_as, fields_as};
 ghost use Rattle.fields.specs.Record.{value_as, pick, RecordAgrees, IsLayout, IsWide};
 
@@ -122,7 +122,7 @@ fn take_all<'a>(
     requires width { length all.old.items ≡ length layout.now.forms.items }
     requires start { at.place ≤ length input.now }
     ensures exact { Gives never (λ after. (map lent_cell all.new.items, after)) result
-        (value_as (fields_in layout.now.schema) (datum_at layout.now.schema input.now at)) }
+        (value_as (opens layout.now.wanted.items) (fields_in layout.now.schema) (datum_at layout.now.schema input.now at)) }
     ensures width { length all.new.items ≡ length all.old.items }
     ensures within { IfOk result (λ after.
         (at.place ≤ after.place) × (after.place ≤ length input.now)) }

@@ -3,7 +3,7 @@
 ghost use Rattle.std.specs.Prelude.{◌≡◌, [], ◌∷◌, map, MatchOption};
 ghost use Rattle.std.specs.declared.option.Option.TheVariants.{None, Some};
 ghost use Rattle.fields.specs.Flat.{leaf_of};
-ghost use Rattle.fields.specs.Wanted.{fields_of, is_id, is_this, find, source, check_missing};
+ghost use Rattle.fields.specs.Wanted.{fields_of, is_id, has_inner, opens, is_this, find, source, check_missing};
 
 use crate::kind::is_allowed;
 use crate::leaf::LentLeaf;
@@ -31,6 +31,29 @@ pub fn fields_of(schema: &Schema) -> &[Field]
         Schema::Rec { fields, .. } => fields.as_slice(),
         _ => &[],
     }
+}
+
+/// Whether the record in a field of the id is opened: one of its fields is wanted. In a field
+/// without an id none is.
+pub fn opens(wanted: &[Wanted], id: Option<i32>) -> bool
+    ensures { result ≡ opens wanted.now id }
+{
+    match id {
+        Some(id) => has_inner(wanted, id),
+        None => false,
+    }
+}
+
+/// Whether a wanted field is in a record that stands in a field of the id.
+fn has_inner(wanted: &[Wanted], id: i32) -> bool
+    ensures { result ≡ has_inner id wanted.now }
+{
+    for w in wanted {
+        if is_id(Some(id), w.parent) {
+            return true;
+        }
+    }
+    false
 }
 
 /// The place of the first field with the ids, counted from 0, if its type is an allowed one.

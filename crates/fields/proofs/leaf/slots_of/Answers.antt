@@ -1,4 +1,4 @@
-use Rattle.std.proofs.Common.{◌≡◌, Bool, ℕ, List, [], ◌∷◌, ◌++◌, ap, sym, ◌∙◌, arith}
+use Rattle.std.proofs.Common.{Bool, ℕ, [], ◌∷◌, ◌++◌, ap, sym, ◌∙◌, arith}
 use Rattle.fields.specs.declared.leaf.LentLeaf.{LentLeaf}
 use Rattle.fields.specs.Flat.{leaf_of}
 use Rattle.std.specs.declared.option.Option.{Option}

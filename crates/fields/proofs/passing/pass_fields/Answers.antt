@@ -1,4 +1,5 @@
-use Rattle.std.proofs.Common.{◌≡◌, ◌<◌, get_or, map, length, length-append, refl, sym, ap, ◌∙◌, ◌∷◌, ◌++◌, [], List, ℕ, Ok, Result, arith}
+use Rattle.std.proofs.Common.{◌<◌, get_or, length, length-append, refl, sym, ap, ◌∙◌, ◌∷◌, ◌++◌, []}
+use Rattle.std.proofs.Common.{ℕ, Ok, arith}
 use Rattle.std.proofs.lemmas.Result.{err_from_is_err_and}
 use Rattle.std.specs.declared.option.Option.{Option}
 use Rattle.std.specs.declared.option.Option.TheVariants.{None}

@@ -1,4 +1,4 @@
-use Rattle.std.proofs.Common.{◌≡◌, ◌≤◌, List, [], length, drop, map}
+use Rattle.std.proofs.Common.{◌≡◌, ◌≤◌, List, [], length, drop}
 use Rattle.datum_tree.specs.declared.datum.Datum.{Datum}
 use Rattle.datum_reading.specs.Reading.{fields_at}
 use Rattle.fields.specs.Flat.{leaf_readers}

@@ -1,4 +1,4 @@
-use Rattle.std.proofs.Common.{◌≡◌, ◌<◌, get_or, map, length, length-append, refl, sym, ap, ◌∙◌, ◌∷◌, ◌++◌, [], arith}
+use Rattle.std.proofs.Common.{◌<◌, get_or, length, length-append, refl, sym, ap, ◌∙◌, ◌∷◌, ◌++◌, [], arith}
 use Rattle.std.proofs.lemmas.List.{length-set}
 use Rattle.std.proofs.lemmas.Result.{err_from_is_err_and}
 use Rattle.std.specs.declared.option.Option.{Option}
@@ -6,11 +6,11 @@ use Rattle.std.specs.declared.option.Option.TheVariants.{None}
 use Rattle.datum_reading.specs.Reading.{datum_at}
 use Rattle.fields.specs.declared.form.Form.{Form}
 use Rattle.row_types.specs.CellRef.{lent_cell}
-use Rattle.fields.specs.Form.{form_of}
 use Rattle.fields.specs.declared.leaf.Leaf.{Leaf}
 use Rattle.fields.specs.Record.{fields_as, read_as}
 use Rattle.fields.proofs.LeafLemmas.{leaf_there}
-use Rattle.fields.proofs.TakingLemmas.{leaf_fails, leaves_on, leaves_end, read_more, was_read, was_refused, none_read, form_at, cells_on, cells_end, as_wide}
+use Rattle.fields.proofs.TakingLemmas.{leaf_fails, leaves_on, leaves_end, was_read, was_refused, none_read}
+use Rattle.fields.proofs.TakingLemmas.{form_at, cells_on, cells_end, as_wide}
 use Rattle.fields.proofs.taking.take_fields.Goals as goal
 
 pub loop-place-init : goal.loop-place-init
@@ -36,7 +36,8 @@ returns-in_err-cell-clause-exact c =
     let leaf : Leaf = get_or c.args.leaves.now c.loop-place.place c.index-leaves-place.result in
     let within : c.loop-place.place < length c.args.leaves.now = omega (arith, c.loop-place-test.true) in
     let refused = was_refused (get_or c.args.forms.now c.loop-place.place None) (datum_at leaf.schema c.args.input.now c.loop-place.at) c.in_err-cell.field-0.0 c.in_err-cell.ensures.exact in
-    rw (p.1, p.2) (ap (fields_as c.args.leaves.now) (leaf_fails c.args.leaves.now c.loop-place.place leaf c.loop-place.invariant.before c.args.input.now c.loop-place.at c.in_err-cell.field-0.0 _ within (leaf_there c.args.leaves.now c.loop-place.place c.index-leaves-place.result leaf c.loop-place-test.true) refused c.loop-place.invariant.so_far))
+    rw (p.1, p.2) (ap (fields_as c.args.leaves.now) (leaf_fails
+    c.args.leaves.now c.loop-place.place leaf c.loop-place.invariant.before c.args.input.now c.loop-place.at c.in_err-cell.field-0.0 _ within (leaf_there c.args.leaves.now c.loop-place.place c.index-leaves-place.result leaf c.loop-place-test.true) refused c.loop-place.invariant.so_far))
 
 pub loop-place-preserved : goal.loop-place-preserved
 loop-place-preserved c =
@@ -52,7 +53,8 @@ loop-place-preserved c =
       width = length-set _ _ _ ∙ c.loop-place.invariant.width;
       before = c.loop-place.invariant.before ++ was.value ∷ [];
       count = omega (arith, c.loop-place.invariant.count, length-append c.loop-place.invariant.before (was.value ∷ []));
-      cells = cells_on c.args.leaves.now c.loop-place.all.items c.loop-place.place c.loop-place.invariant.before was.value leaf c.in_ok-cell.cell (omega (arith, width, within)) c.loop-place.invariant.count within there (was.cell_is ∙ ap (λ (f : Option Form). read_as f was.value) form_is) c.loop-place.invariant.cells;
+      cells = cells_on c.args.leaves.now c.loop-place.all.items c.loop-place.place c.loop-place.invariant.before was.value leaf
+          c.in_ok-cell.cell (omega (arith, width, within)) c.loop-place.invariant.count within there (was.cell_is ∙ ap (λ (f : Option Form). read_as f was.value) form_is) c.loop-place.invariant.cells;
       so_far = leaves_on c.args.leaves.now c.loop-place.place leaf c.loop-place.invariant.before c.args.input.now c.loop-place.at was.value c.in_ok-cell.after _ within there was.is c.loop-place.invariant.so_far;
     }
 
