@@ -1,4 +1,3 @@
-pub mod FormLemmas
 pub mod FieldLemmas
 pub mod NullLemmas
 pub mod FlatLaws

@@ -1,6 +1,3 @@
-pub mod Kind
-pub mod Value
-pub mod Form
 pub mod Flat
 pub mod Kept
 pub mod Wanted

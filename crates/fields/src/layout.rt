@@ -9,10 +9,10 @@ ghost use Rattle.fields.specs.Wanted.{fields_of as fields_in, opens, source as s
 ghost use Rattle.fields.specs.Wanted.{check_missing as missing_in};
 ghost use Rattle.fields.specs.Record.{is_memory, place_in, forms_of as forms_in, IsLayout};
 
-use crate::form::{Form, form_of};
 use crate::leaf::{Leaf, LentLeaf, kept_of, leaves_of, slots_of};
 use crate::refusal::FieldRefusal;
 use crate::wanted::{Wanted, check_missing, fields_of, source};
+use cell_reading::{Form, form_of};
 use schema_tree::Schema;
 use std::alloc::{AllocError, Global};
 

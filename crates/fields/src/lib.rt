@@ -3,7 +3,6 @@
 //! | Module | What it has |
 //! |---|---|
 //! | `refusal` | why a record does not have the wanted fields |
-//! | `kind`, `form` | which types hold cells, and how a cell is read |
 //! | `leaf`, `empty` | the fields of a record and of the records in it; which types take no bytes |
 //! | `wanted` | which field holds what is wanted |
 //! | `layout` | how the records of a schema are read |
@@ -11,8 +10,6 @@
 #![tactic(auto)]
 
 mod empty;
-mod form;
-mod kind;
 mod layout;
 mod leaf;
 mod passing;

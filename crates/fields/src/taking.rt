@@ -7,16 +7,16 @@ ghost use Rattle.row_types.specs.CellRef.{lent_cell};
 ghost use Rattle.fields.specs.Flat.{leaf_readers};
 ghost use Rattle.datum_reading.specs.Reading.{fields_at, datum_at};
 ghost use Rattle.fields.specs.declared.wanted.Wanted.{Wanted as AWanted};
-ghost use Rattle.fields.specs.Form.{form_of};
+ghost use Rattle.cell_reading.specs.Form.{form_of};
 ghost use Rattle.fields.specs.Wanted.{fields_of as fields_in, opens, source, check_nulls};
 ghost use Rattle.fields.specs.Record.{datum_refusal, record_at, forms_of, field_as, fields_as};
 ghost use Rattle.fields.specs.Record.{value_as, pick, RecordAgrees, IsLayout, IsWide};
 
-use crate::form::{Form, take_cell};
 use crate::layout::Layout;
 use crate::leaf::Leaf;
 use crate::refusal::FieldRefusal;
 use crate::wanted::Wanted;
+use cell_reading::{Form, take_cell};
 use datum_reading::{Cursor, DatumRefusal, reading_agrees, skip};
 use row_types::CellRef;
 use schema_tree::Schema;

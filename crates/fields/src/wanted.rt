@@ -5,9 +5,9 @@ ghost use Rattle.std.specs.declared.option.Option.TheVariants.{None, Some};
 ghost use Rattle.fields.specs.Flat.{leaf_of};
 ghost use Rattle.fields.specs.Wanted.{fields_of, is_id, has_inner, opens, is_this, find, source, check_missing};
 
-use crate::kind::is_allowed;
 use crate::leaf::LentLeaf;
 use crate::refusal::FieldRefusal;
+use cell_reading::is_allowed;
 use row_types::Kind;
 use schema_tree::{Field, Schema};
 

@@ -1,7 +1,6 @@
 pub mod FoundLemmas
 pub mod ColumnsLemmas
 pub mod OwnColumns
-pub mod FormLemmas
 pub mod StoredRows
 pub mod StoredBlocks
 pub mod StoredLaws

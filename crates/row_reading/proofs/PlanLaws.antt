@@ -18,17 +18,18 @@ use Rattle.row_types.specs.Columns.{IsColumns, largest_id}
 use Rattle.schema_tree.specs.declared.schema.Schema.{Schema, out-Schema}
 use Rattle.schema_tree.specs.declared.schema.Field.{Field, out-Field}
 use Rattle.datum_tree.specs.declared.datum.Datum.{Datum}
-use Rattle.row_reading.specs.declared.form.Form.{Form}
-use Rattle.stored_rows.specs.declared.kind.Primitive.{Primitive}
+use Rattle.cell_reading.specs.declared.form.Form.{Form}
+use Rattle.cell_reading.specs.declared.kind.Primitive.{Primitive}
 use Rattle.row_reading.specs.declared.plan.Step.{Step}
 use Rattle.row_reading.specs.declared.plan.Step.TheVariants.{Skip, Take}
 use Rattle.row_reading.specs.declared.plan.Target.{Target}
 use Rattle.row_reading.specs.declared.plan.Target.TheVariants as targets
-use Rattle.stored_rows.specs.Kind.{Level, Nullable, nullable, primitive_of, holds_as, is_allowed_as, is_allowed}
+use Rattle.cell_reading.specs.Kind.{Level, Nullable, nullable, primitive_of, holds_as, is_allowed_as, is_allowed}
 use Rattle.stored_rows.specs.Field.{Found, find, row_id_field, last_updated_field, check_fields}
 use Rattle.row_types.specs.CellRef.{number_of}
-use Rattle.stored_rows.specs.Row.{cell_of, cell_at, cell_with, stored_row}
-use Rattle.row_reading.specs.Cell.{null_branch, form_with, form_as, form_of}
+use Rattle.cell_reading.specs.Value.{cell_of}
+use Rattle.stored_rows.specs.Row.{cell_at, cell_with, stored_row}
+use Rattle.cell_reading.specs.Form.{null_branch, form_with, form_as, form_of}
 use Rattle.row_reading.specs.Plan.{with_cell, stepped, ReadsAs, IsWithin, IsAimed, IsStep, IsPlan}
 use Rattle.row_reading.specs.Planning.{Aim, aims_from, lineage_aims, planned_as, planned_at, planned, all_planned}
 use Rattle.stored_rows.specs.Stored.{IsThere, HoldsLongs, AreReadable}

@@ -26,7 +26,8 @@ use Rattle.stored_rows.specs.declared.refusal.RowRefusal.{RowRefusal}
 use Rattle.row_types.specs.CellRef.{is_null, lent_cell, number_of}
 use Rattle.stored_rows.specs.Field.{Found, find, find_from, fields_of_level, fields_of, row_id_field}
 use Rattle.stored_rows.specs.Field.{last_updated_field}
-use Rattle.stored_rows.specs.Row.{cell_at, cell_with, values_of_level, values_of, stored_row, check_nulls}
+use Rattle.cell_reading.specs.Value.{values_of_level, values_of}
+use Rattle.stored_rows.specs.Row.{cell_at, cell_with, stored_row, check_nulls}
 use Rattle.row_reading.specs.Plan.{as_row, value_as_row}
 
 -- ---- a row without values

@@ -15,30 +15,30 @@ use Rattle.datum_reading.specs.declared.refusal.DatumRefusal.{DatumRefusal}
 use Rattle.datum_reading.specs.Reading.{fields_at, datum_at}
 use Rattle.datum_reading.specs.Readers.{readers_of}
 use Rattle.datum_reading.specs.FieldSteps.{field_fails, fields_on, fields_end}
-use Rattle.row_reading.specs.declared.form.Form.{Form}
+use Rattle.cell_reading.specs.declared.form.Form.{Form}
 use Rattle.row_reading.specs.declared.plan.Step.{Step}
 use Rattle.row_reading.specs.declared.plan.Step.TheVariants.{Skip, Take}
 use Rattle.row_reading.specs.declared.plan.Target.{Target}
-use Rattle.row_reading.specs.Cell.{form_of, form_at, as_cell, cell_read}
-use Rattle.stored_rows.specs.Row.{cell_of, stored_row}
+use Rattle.cell_reading.specs.Form.{form_of, as_cell, cell_read}
+use Rattle.cell_reading.specs.Value.{cell_of}
+use Rattle.stored_rows.specs.Row.{stored_row}
 use Rattle.row_reading.specs.Plan.{with_cell, stepped, put_by, as_row, ReadsAs, IsStep, IsPlan}
-use Rattle.row_reading.proofs.FormLemmas.{form_reads}
 
 -- ---- one step
 
 -- a cell that is refused is put nowhere
 pub cell_refused : (target : Target) (form : Form) (step : Step) (schema : Schema) (row : StoredRow) (input : List ℕ) (at : Cursor) (e : DatumRefusal) → step ≡ Take target form → ReadsAs step schema
-    → form_at form input at ≡ Err e → put_by step row (cell_read schema input at) ≡ Err e
+    → (form_of schema ≡ Some form → cell_read schema input at ≡ Err e) → put_by step row (cell_read schema input at) ≡ Err e
 cell_refused target form step schema row input at e taken reads refused =
     let is : form_of schema ≡ Some form = subst (λ (s : Step). ReadsAs s schema) taken reads in
-    rw (← form_reads schema form is input at, refused) refl
+    rw (refused is) refl
 
 -- a cell that is read is put where the target is
 pub cell_taken : (target : Target) (form : Form) (step : Step) (schema : Schema) (row : StoredRow) (input : List ℕ) (at : Cursor) (cell : Cell) (after : Cursor) → step ≡ Take target form → ReadsAs step schema
-    → form_at form input at ≡ Ok (cell, after) → put_by step row (cell_read schema input at) ≡ Ok (with_cell target cell row, after)
+    → (form_of schema ≡ Some form → cell_read schema input at ≡ Ok (cell, after)) → put_by step row (cell_read schema input at) ≡ Ok (with_cell target cell row, after)
 cell_taken target form step schema row input at cell after taken reads read =
     let is : form_of schema ≡ Some form = subst (λ (s : Step). ReadsAs s schema) taken reads in
-    rw (← form_reads schema form is input at, read, taken) refl
+    rw (read is, taken) refl
 
 -- ---- the steps of fields, one after the other
 

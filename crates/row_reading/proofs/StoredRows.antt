@@ -16,7 +16,8 @@ use Rattle.words.specs.Steps.{bind_then, map_ok, test_failed, ok_is}
 use Rattle.stored_rows.specs.Refusal.{datum_refusal}
 use Rattle.stored_rows.specs.Field.{fields_of}
 use Rattle.row_types.specs.CellRef.{is_null}
-use Rattle.stored_rows.specs.Row.{values_of, stored_row, check_nulls, checked_row}
+use Rattle.cell_reading.specs.Value.{values_of}
+use Rattle.stored_rows.specs.Row.{stored_row, check_nulls, checked_row}
 use Rattle.row_reading.specs.File.{row_at}
 use Rattle.stored_rows.specs.Stored.{HasNoNull, StoresRow}
 

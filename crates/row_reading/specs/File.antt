@@ -19,7 +19,8 @@ use Rattle.stored_rows.specs.declared.refusal.RowRefusal.{RowRefusal}
 use Rattle.stored_rows.specs.declared.refusal.RowRefusal.TheVariants.{Rest, RecordCount, IdsSpent, Limit}
 use Rattle.stored_rows.specs.Refusal.{container_refusal, schema_refusal, datum_refusal}
 use Rattle.stored_rows.specs.Field.{fields_of, check_fields}
-use Rattle.stored_rows.specs.Row.{values_of, stored_row, checked_row}
+use Rattle.cell_reading.specs.Value.{values_of}
+use Rattle.stored_rows.specs.Row.{stored_row, checked_row}
 use Rattle.stored_rows.specs.Rows.{most_rows, rows_from}
 
 -- ---- the rows of a block

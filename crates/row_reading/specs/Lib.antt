@@ -1,4 +1,3 @@
-pub mod Cell
 pub mod Plan
 pub mod Planning
 pub mod File

@@ -13,9 +13,10 @@ use Rattle.row_reading.specs.declared.plan.Step.{Step}
 use Rattle.row_reading.specs.declared.plan.Step.TheVariants.{Skip, Take}
 use Rattle.row_reading.specs.declared.plan.Target.{Target}
 use Rattle.row_reading.specs.declared.plan.Target.TheVariants as targets
-use Rattle.row_reading.specs.Cell.{form_of}
+use Rattle.cell_reading.specs.Form.{form_of}
 use Rattle.row_types.specs.CellRef.{number_of}
-use Rattle.stored_rows.specs.Row.{cell_of, values_of, stored_row}
+use Rattle.cell_reading.specs.Value.{cell_of, values_of}
+use Rattle.stored_rows.specs.Row.{stored_row}
 
 -- the row with a cell where the target is
 abbrev pub with_cell : Target → Cell → StoredRow → StoredRow

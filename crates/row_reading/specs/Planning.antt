@@ -2,13 +2,13 @@
 use Rattle.std.specs.Prelude.{ℕ, ◌+◌, ℤ, List, [], ◌∷◌, set, Option, Some, None}
 use Rattle.row_types.specs.declared.column.Column.{Column}
 use Rattle.schema_tree.specs.declared.schema.Field.{Field}
-use Rattle.row_reading.specs.declared.form.Form.{Form}
+use Rattle.cell_reading.specs.declared.form.Form.{Form}
 use Rattle.row_reading.specs.declared.plan.Step.{Step}
 use Rattle.row_reading.specs.declared.plan.Step.TheVariants.{Take}
 use Rattle.row_reading.specs.declared.plan.Target.{Target}
 use Rattle.row_reading.specs.declared.plan.Target.TheVariants as targets
 use Rattle.stored_rows.specs.Field.{Found, find, row_id_field, last_updated_field}
-use Rattle.row_reading.specs.Cell.{form_of}
+use Rattle.cell_reading.specs.Form.{form_of}
 
 -- the id of a column's field, and where its cell goes
 abbrev pub Aim : Type 0

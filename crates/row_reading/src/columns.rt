@@ -5,7 +5,7 @@ ghost use Rattle.words.specs.Reading.{Gives, never};
 ghost use Rattle.schema_tree.specs.declared.schema.Field.{out-Field};
 ghost use Rattle.row_types.specs.Columns.{first_fault, has_name, has_wrong_name as wrong_name};
 ghost use Rattle.stored_rows.specs.Refusal.{is_memory};
-ghost use Rattle.stored_rows.specs.Kind.{nullable};
+ghost use Rattle.cell_reading.specs.Kind.{nullable};
 ghost use Rattle.stored_rows.specs.Field.{find, fields_of};
 ghost use Rattle.row_reading.specs.File.{opened};
 ghost use Rattle.stored_rows.specs.Stored.{IsHeld};
@@ -14,11 +14,12 @@ ghost use Rattle.row_reading.specs.Fault.{id_of};
 
 use crate::opening::open_file;
 use avro_container::Walk;
+use cell_reading::{kind_of, nullable};
 use lists::Copied;
 use row_types::{Column, Columns, ColumnsRefusal};
 use schema_tree::{Field, Schema};
 use std::alloc::Global;
-use stored_rows::{RowRefusal, fields_of, kind_of, nullable};
+use stored_rows::{RowRefusal, fields_of};
 
 /// The first id that is the standard's own. Iceberg spec, "Reserved Field IDs".
 const FIRST_RESERVED_ID: i32 = 2_147_483_448;

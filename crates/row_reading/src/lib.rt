@@ -4,7 +4,6 @@
 //! |---|---|
 //! | `opening` | a file's blocks, and its schema |
 //! | `columns` | the columns of a file, by its own schema |
-//! | `form` | how the cells of a field are read |
 //! | `plan`, `row` | which cell of a row each field fills; one row, lent from its bytes |
 //! | `block`, `checking` | the checks of a file's blocks; those of the whole file, in their order |
 //! | `checked` | the rows of a file that was checked |
@@ -16,7 +15,6 @@ mod block;
 mod checked;
 mod checking;
 mod columns;
-mod form;
 mod law;
 mod opening;
 mod plan;

@@ -5,7 +5,7 @@ ghost use Rattle.stored_rows.specs.Field.{row_id_field, last_updated_field, chec
 ghost use Rattle.row_reading.specs.Plan.{IsPlan};
 ghost use Rattle.row_reading.specs.Planning.{aims_from, planned, all_planned};
 
-use crate::form::{Form, form_of};
+use cell_reading::{Form, form_of};
 use row_types::{Column, Columns};
 use schema_tree::Field;
 use std::alloc::{AllocError, Global};

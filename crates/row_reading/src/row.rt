@@ -7,15 +7,15 @@ ghost use Rattle.datum_reading.specs.Readers.{readers_of};
 ghost use Rattle.datum_reading.specs.Reading.{fields_at, datum_at};
 ghost use Rattle.stored_rows.specs.Refusal.{datum_refusal};
 ghost use Rattle.row_types.specs.CellRef.{lent_cell};
-ghost use Rattle.row_reading.specs.Cell.{cell_read};
+ghost use Rattle.cell_reading.specs.Form.{cell_read};
 ghost use Rattle.stored_rows.specs.Field.{fields_of as fields_in};
 ghost use Rattle.stored_rows.specs.Row.{stored_row, check_nulls};
 ghost use Rattle.row_reading.specs.Plan.{ReadsAs, IsWithin, IsAimed, IsPlan, with_cell, put_by, as_row, value_as_row};
 ghost use Rattle.row_reading.specs.File.{row_at};
 ghost use Rattle.row_reading.specs.Checked.{lent_row};
 
-use crate::form::take_cell;
 use crate::plan::{Step, Target};
+use cell_reading::take_cell;
 use datum_reading::{Cursor, DatumRefusal, skip};
 use row_types::{CellRef, Column};
 use schema_tree::{Field, Schema};

@@ -18,7 +18,8 @@ use Rattle.datum_tree.specs.declared.datum.Datum.TheVariants as datums
 use Rattle.datum_tree.specs.Value.{Level}
 use Rattle.stored_rows.specs.Field.{is_this, find_from, fields_of, row_id_field, last_updated_field}
 use Rattle.row_types.specs.CellRef.{is_null, number_of}
-use Rattle.stored_rows.specs.Row.{plain_cell, cell_of_level, cell_of, values_of_level, values_of, cell_at, cell_with}
+use Rattle.cell_reading.specs.Value.{plain_cell, cell_of_level, cell_of, values_of_level, values_of}
+use Rattle.stored_rows.specs.Row.{cell_at, cell_with}
 use Rattle.stored_rows.specs.Row.{stored_row}
 use Rattle.stored_rows.specs.Stored.{HasNoNull}
 use Rattle.row_writing.specs.Writing.{file_schema, column_field, lineage_fields, are_plain_names, cell_datum}

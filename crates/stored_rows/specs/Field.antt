@@ -12,7 +12,7 @@ use Rattle.schema_tree.specs.declared.schema.Schema.TheOpen.{Rec}
 use Rattle.schema_tree.specs.declared.schema.Field.{Field, out-Field}
 use Rattle.stored_rows.specs.declared.refusal.RowRefusal.{RowRefusal}
 use Rattle.stored_rows.specs.declared.refusal.RowRefusal.TheVariants.{MissingColumn, Kind as WrongKind}
-use Rattle.stored_rows.specs.Kind.{Level, is_allowed}
+use Rattle.cell_reading.specs.Kind.{Level, is_allowed}
 
 -- the ids of the lineage columns: a row's id, and the sequence number of its last change
 abbrev pub row_id_field : ℤ

@@ -1,5 +1,4 @@
 pub mod Refusal
-pub mod Kind
 pub mod Field
 pub mod Row
 pub mod Rows

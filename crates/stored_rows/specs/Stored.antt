@@ -18,10 +18,11 @@ use Rattle.avro_container.specs.declared.container.Container.{Container}
 use Rattle.avro_container.specs.Header.{schema_key, bound_to}
 use Rattle.avro_container.specs.Container.{most_bytes}
 use Rattle.avro_container.specs.Format.{IsContainer}
-use Rattle.stored_rows.specs.Kind.{is_allowed}
+use Rattle.cell_reading.specs.Kind.{is_allowed}
 use Rattle.stored_rows.specs.Field.{Found, find, fields_of, row_id_field, last_updated_field}
 use Rattle.row_types.specs.CellRef.{is_null}
-use Rattle.stored_rows.specs.Row.{values_of, stored_row}
+use Rattle.cell_reading.specs.Value.{values_of}
+use Rattle.stored_rows.specs.Row.{stored_row}
 use Rattle.stored_rows.specs.Rows.{most_rows, rows_from}
 
 -- ---- the columns

@@ -4,8 +4,8 @@ ghost use Rattle.std.specs.Prelude.{◌≡◌, ◌<◌, length, IfSome, MatchOpt
 ghost use Rattle.std.specs.declared.option.Option.TheVariants.{None, Some};
 ghost use Rattle.stored_rows.specs.Field.{fields_of, is_this, find, is_missing, is_wrong, check_missing, check_kind, check_kinds, check_fields};
 
-use crate::kind::is_allowed;
 use crate::refusal::RowRefusal;
+use cell_reading::is_allowed;
 use row_types::{Column, Kind};
 use schema_tree::{Field, Schema};
 

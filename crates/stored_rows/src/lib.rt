@@ -3,17 +3,14 @@
 //! | Module | What it has |
 //! |---|---|
 //! | `refusal` | why the rows of a file can't be read or written |
-//! | `kind` | which types hold the cells of a column |
 //! | `field` | the field of a column, and whether the fields are those of a table |
 //! | `lineage` | the id of a row, and its last change, at its position in a file |
 #![tactic(auto)]
 
 mod field;
-mod kind;
 mod lineage;
 mod refusal;
 
 pub use field::{LAST_UPDATED_FIELD, ROW_ID_FIELD, check_fields, fields_of, find};
-pub use kind::{CellType, Primitive, holds, is_allowed, is_null, kind_of, nullable, primitive_of};
 pub use lineage::{row_id, row_last};
 pub use refusal::RowRefusal;

@@ -2,8 +2,8 @@
 use Rattle.std.specs.Prelude.{Bool, true, false, List, [], ◌∷◌, Option, Some, None}
 use Rattle.row_types.specs.declared.column.Kind.{Kind}
 use Rattle.row_types.specs.declared.column.Kind.TheVariants as kinds
-use Rattle.stored_rows.specs.declared.kind.Primitive.{Primitive}
-use Rattle.stored_rows.specs.declared.kind.Primitive.TheVariants as primitives
+use Rattle.cell_reading.specs.declared.kind.Primitive.{Primitive}
+use Rattle.cell_reading.specs.declared.kind.Primitive.TheVariants as primitives
 use Rattle.schema_tree.specs.declared.schema.Schema.{Schema, out-Schema}
 use Rattle.schema_tree.specs.declared.schema.Field.{Field}
 use Rattle.schema_tree.specs.declared.schema.Schema.TheOpen.{Schema-F, Null, Boolean, Int, Long, Raw, Str, Union}

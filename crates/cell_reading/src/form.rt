@@ -1,17 +1,20 @@
-//! How the cells of a field are read from the bytes of a row.
+//! How the cells of a type are read.
 
 ghost use Rattle.std.specs.Prelude.{◌≡◌, ◌≤◌, length, IfOk};
 ghost use Rattle.words.specs.Reading.{Gives, never};
 ghost use Rattle.schema_tree.specs.declared.schema.Schema.{out-Schema};
 ghost use Rattle.row_types.specs.CellRef.{lent_cell};
-ghost use Rattle.row_reading.specs.Cell.{null_branch, form_of, primitive_at, form_at};
+ghost use Rattle.std.specs.declared.option.Option.TheVariants.{Some};
+ghost use Rattle.schema_tree.specs.declared.schema.Schema.{Schema as ASchema};
+ghost use Rattle.cell_reading.specs.Form as spec;
+ghost use Rattle.cell_reading.specs.Form.{null_branch, form_of, primitive_at, form_at, cell_read};
 
+use crate::kind::{Primitive, is_null, nullable, primitive_of};
 use datum_reading::{
     Cursor, DatumRefusal, pass_sized, take_choice, take_flag, take_int_at, take_long_at, take_text,
 };
 use row_types::CellRef;
 use schema_tree::Schema;
-use stored_rows::{Primitive, is_null, nullable, primitive_of};
 
 /// How the cells of a type are read.
 #[derive(Clone, Copy)]
@@ -33,8 +36,25 @@ pub fn form_of(schema: &Schema) -> Option<Form>
     })
 }
 
-/// The cell at the cursor, lent from the input, and the cursor behind it. Avro spec, "Unions".
+/// The cell at the cursor, borrowed from the input, and the cursor behind it. Avro spec, "Unions".
 pub fn take_cell<'a>(
+    form: Form,
+    input: &'a [u8],
+    at: Cursor,
+) -> Result<(CellRef<'a>, Cursor), DatumRefusal>
+    requires { at.place ≤ length input.now }
+    // It is the cell of the value that is read under each schema of this form.
+    ensures reads { (schema : ASchema) → spec.form_of schema ≡ Some form
+        → Gives never (λ taken. (lent_cell taken.0, taken.1)) result
+        (cell_read schema input.now at) }
+    ensures within { IfOk result (λ taken.
+        (at.place ≤ taken.1.place) × (taken.1.place ≤ length input.now)) }
+{
+    take_form(form, input, at)
+}
+
+/// The cell at the cursor, by the form alone.
+fn take_form<'a>(
     form: Form,
     input: &'a [u8],
     at: Cursor,

@@ -3,9 +3,7 @@
 ghost use Rattle.std.specs.Prelude.{◌≡◌, MatchOption};
 ghost use Rattle.std.specs.declared.option.Option.TheVariants.{None, Some};
 ghost use Rattle.schema_tree.specs.declared.schema.Schema.{out-Schema};
-ghost use Rattle.fields.specs.Kind.{nullable, beside_null, is_null, primitive_of};
-ghost use Rattle.fields.specs.Kind.{is_read_from, holds, is_allowed, int_kind, long_kind};
-ghost use Rattle.fields.specs.Kind.{kind_of};
+ghost use Rattle.cell_reading.specs.Kind.{nullable, beside_null, is_null, primitive_of, is_read_from, holds, is_allowed, int_kind, long_kind, kind_of};
 
 use row_types::Kind;
 use schema_tree::{Logical, Schema};

@@ -11,11 +11,11 @@ use Rattle.datum_reading.specs.declared.cursor.Cursor.{Cursor}
 use Rattle.datum_tree.specs.declared.datum.Datum.{Datum}
 use Rattle.datum_reading.specs.declared.refusal.DatumRefusal.{DatumRefusal}
 use Rattle.datum_reading.specs.Reading.{flag_at, num_at, sized_at, text_at, choice_at, datum_at}
-use Rattle.row_reading.specs.declared.form.Form.{Form}
-use Rattle.stored_rows.specs.declared.kind.Primitive.{Primitive}
-use Rattle.stored_rows.specs.declared.kind.Primitive.TheVariants as primitives
-use Rattle.stored_rows.specs.Kind.{Level, Nullable, nullable, is_null, primitive_of}
-use Rattle.stored_rows.specs.Row.{cell_of}
+use Rattle.cell_reading.specs.declared.form.Form.{Form}
+use Rattle.cell_reading.specs.declared.kind.Primitive.{Primitive}
+use Rattle.cell_reading.specs.declared.kind.Primitive.TheVariants as primitives
+use Rattle.cell_reading.specs.Kind.{Level, Nullable, nullable, is_null, primitive_of}
+use Rattle.cell_reading.specs.Value.{cell_of}
 
 -- ---- how the cells of a type are read
 
@@ -64,8 +64,8 @@ primitive_at primitives.Bytes input at = map_value (λ read. (cells.Bytes read.0
 abbrev pub beside_null_at : Primitive → Option ℕ → List ℕ → Cursor → Result (Cell × Cursor) DatumRefusal
 beside_null_at primitive None input at = primitive_at primitive input at
 beside_null_at primitive (Some branch) input at =
-    choice_at 2 input at >>= λ choice. if choice.0 == branch then Ok (cells.Null, choice.1) else primitive_at
-    primitive input choice.1
+    choice_at 2 input at >>= λ choice.
+    if choice.0 == branch then Ok (cells.Null, choice.1) else primitive_at primitive input choice.1
 
 -- the cell at a cursor, of the form
 abbrev pub form_at : Form → List ℕ → Cursor → Result (Cell × Cursor) DatumRefusal
