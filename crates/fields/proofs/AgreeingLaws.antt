@@ -1,6 +1,6 @@
 -- A record by the relation: what is read is stored so, and what is stored so is read.
-use Rattle.std.proofs.Common.{◌≡◌, ℕ, Bool, true, false, ◌&&◌, List, [], ◌∷◌, Ok, refl, sym, ap, ap₂, subst, ◌∙◌, arith}
-use Rattle.words.specs.Reading.{◌>>=◌, map_refusal, map_value}
+use Rattle.std.proofs.Common.{◌≡◌, ℕ, Bool, true, false, ◌&&◌, List, [], ◌∷◌, Ok, refl, ap, subst, ◌∙◌, arith}
+use Rattle.words.specs.Reading.{◌>>=◌, map_refusal}
 use Rattle.row_types.specs.declared.cell.Cell.{Cell}
 use Rattle.schema_tree.specs.declared.schema.Schema.{Schema}
 use Rattle.datum_reading.specs.declared.cursor.Cursor.{Cursor}

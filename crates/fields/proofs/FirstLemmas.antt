@@ -1,11 +1,13 @@
 -- The first required field that a field holds, as a loop does.
-use Rattle.std.proofs.Common.{◌≡◌, ℕ, suc, ◌+◌, ◌-◌, ◌<◌, ◌≤◌, true, false, Bool, List, [], ◌∷◌, ◌++◌, length, map, get_or, drop, refl, ap, ap₂, sym, ◌∙◌, arith, append_assoc}
+use Rattle.std.proofs.Common.{◌≡◌, ℕ, suc, ◌+◌, ◌-◌, ◌<◌, ◌≤◌, true, false, Bool, List, [], ◌∷◌, ◌++◌, length, map}
+use Rattle.std.proofs.Common.{get_or, drop, refl, ap, sym, ◌∙◌, arith, append_assoc}
 use Rattle.std.specs.Prelude.{if◌then◌else◌}
 use Rattle.std.specs.declared.option.Option.{Option}
 use Rattle.std.proofs.lemmas.List.{drop_more, drop_all, append-nil}
 use Rattle.fields.specs.declared.wanted.Wanted.{Wanted}
-use Rattle.fields.specs.declared.leaf.Leaf.{Leaf as LentLeaf}
-use Rattle.fields.specs.Flat.{Leaf, leaf_of}
+use Rattle.fields.specs.declared.leaf.LentLeaf.{LentLeaf}
+use Rattle.fields.specs.declared.leaf.Leaf.{Leaf}
+use Rattle.fields.specs.Flat.{leaf_of}
 use Rattle.fields.specs.Kept.{is_bare, kept, slot_of, behind_slot, slots}
 use Rattle.fields.specs.Nulls.{first_of, is_at, is_needed, needed_from}
 

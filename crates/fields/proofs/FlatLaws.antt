@@ -1,5 +1,6 @@
 -- Reading the fields of a record and of the records in it, one behind the other, is reading the record.
-use Rattle.std.proofs.Common.{◌≡◌, ℕ, List, [], ◌∷◌, ◌++◌, map, Result, Ok, Err, refl, sym, ap, ap₂, ◌∙◌, append_assoc}
+use Rattle.std.proofs.Common.{◌≡◌, ℕ, true, false, Bool, List, [], ◌∷◌, ◌++◌, map, Result, Ok, Err, refl, sym, ap}
+use Rattle.std.proofs.Common.{◌∙◌, append_assoc}
 use Rattle.std.specs.Prelude.{ℤ, Option}
 use Rattle.std.proofs.lemmas.List.{append-nil, map-append}
 use Rattle.words.specs.Reading.{◌>>=◌, map_value}
@@ -16,8 +17,11 @@ use Rattle.datum_reading.specs.Reading.{Reader, fields_at, datum_at}
 use Rattle.datum_reading.specs.Readers.{readers_of}
 use Rattle.datum_reading.specs.Layers.{reads-Rec}
 use Rattle.cell_reading.specs.Kind.{Level}
-use Rattle.cell_reading.specs.Value.{values_of_level, values_of}
-use Rattle.fields.specs.Flat.{Leaf, inner_leaf, leaves_of_level, leaves_of_field, leaves, flat_of_level, flat_values, leaf_readers}
+use Rattle.cell_reading.specs.Value.{values_of_level}
+use Rattle.fields.specs.declared.leaf.Leaf.{Leaf}
+use Rattle.fields.specs.Flat.{inner_leaf, leaves_of_level, leaves_of_field, leaves_if, leaves, flat_of_level, flat_if}
+use Rattle.fields.specs.Flat.{flat_values, Opens}
+use Rattle.fields.specs.Flat.{leaf_readers}
 
 -- what reading fields answers
 abbrev pub Answer : Type 0
@@ -110,31 +114,40 @@ field_flat field (types.Array items id keyed) schema is type input at = one_read
 field_flat field (types.Map values key value) schema is type input at = one_read (datum_at (out-Field field).schema) input at ∙ ap (λ (s : Schema). flat (types.Map values key value) (datum_at s input at)) type
 field_flat field (types.Union branches) schema is type input at = one_read (datum_at (out-Field field).schema) input at ∙ ap (λ (s : Schema). flat (types.Union branches) (datum_at s input at)) type
 
+-- of a field that is opened, or is not
+abbrev flat_of : Bool → Field → Result (Datum × Cursor) DatumRefusal → Answer
+flat_of test field read = map_value (λ read. (flat_if test (out-Schema (out-Field field).schema) read.0, read.1)) read
+
+opened_flat : (test : Bool) (field : Field) (input : List ℕ) (at : Cursor)
+    → fields_at (leaf_readers (leaves_if test field)) [] input at ≡ flat_of test field (datum_at (out-Field field).schema input at)
+opened_flat true field input at = field_flat field (out-Schema (out-Field field).schema) (out-Field field).schema (roll-out-Schema (out-Field field).schema) refl input at
+opened_flat false field input at = one_read (datum_at (out-Field field).schema) input at
+
 -- ---- the values of fields
 
 -- what is read of all fields, flat
-abbrev pub all_flat : List Field → Answer → Answer
-all_flat fields read = map_value (λ read. (flat_values fields read.0, read.1)) read
+abbrev pub all_flat : Opens → List Field → Answer → Answer
+all_flat opened fields read = map_value (λ read. (flat_values opened fields read.0, read.1)) read
 
 -- the values of a field before those of the others
-put_flat : (field : Field) (fields : List Field) (value : Datum) (read : Answer) → behind (flat_of_level (out-Schema (out-Field field).schema) value) (all_flat fields read) ≡ all_flat (field ∷ fields) (behind (value ∷ []) read)
-put_flat field fields value (Ok read) = refl
-put_flat field fields value (Err e) = refl
+put_flat : (opened : Opens) (field : Field) (fields : List Field) (value : Datum) (read : Answer) → behind (flat_if (opened (out-Field field).id) (out-Schema (out-Field field).schema) value) (all_flat opened fields read) ≡ all_flat opened (field ∷ fields) (behind (value ∷ []) read)
+put_flat opened field fields value (Ok read) = refl
+put_flat opened field fields value (Err e) = refl
 
 -- a first field, and the others
-first_flat : (field : Field) (fields : List Field) (read : Result (Datum × Cursor) DatumRefusal) (others : Cursor → Answer)
-    → (flat (out-Schema (out-Field field).schema) read >>= λ r. behind r.0 (all_flat fields (others r.1))) ≡ all_flat (field ∷ fields) (read >>= λ r. behind (r.0 ∷ []) (others r.1))
-first_flat field fields (Ok r) others = put_flat field fields r.0 (others r.1)
-first_flat field fields (Err e) others = refl
+first_flat : (opened : Opens) (field : Field) (fields : List Field) (read : Result (Datum × Cursor) DatumRefusal) (others : Cursor → Answer)
+    → (flat_of (opened (out-Field field).id) field read >>= λ r. behind r.0 (all_flat opened fields (others r.1))) ≡ all_flat opened (field ∷ fields) (read >>= λ r. behind (r.0 ∷ []) (others r.1))
+first_flat opened field fields (Ok r) others = put_flat opened field fields r.0 (others r.1)
+first_flat opened field fields (Err e) others = refl
 
 -- reading the leaves is reading the fields
-pub leaves_read : (fields : List Field) (input : List ℕ) (at : Cursor) → fields_at (leaf_readers (leaves fields)) [] input at ≡ all_flat fields (fields_at (readers_of fields) [] input at)
+pub leaves_read : (opened : Opens) (fields : List Field) (input : List ℕ) (at : Cursor) → fields_at (leaf_readers (leaves opened fields)) [] input at ≡ all_flat opened fields (fields_at (readers_of fields) [] input at)
 unfolding fields_at
-leaves_read [] input at = refl
-leaves_read (field ∷ fields) input at =
-    ap (λ (rs : List Reader). fields_at rs [] input at) (map-append (λ (leaf : Leaf). datum_at leaf.schema) (leaves_of_field field) (leaves fields))
-    ∙ read_both (leaf_readers (leaves_of_field field)) (leaf_readers (leaves fields)) [] input at
-    ∙ ap (λ (r : Answer). r >>= λ r. fields_at (leaf_readers (leaves fields)) r.0 input r.1) (field_flat field (out-Schema (out-Field field).schema) (out-Field field).schema (roll-out-Schema (out-Field field).schema) refl input at)
-    ∙ bind_same (flat (out-Schema (out-Field field).schema) (datum_at (out-Field field).schema input at)) _ _ (λ r. read_behind (leaf_readers (leaves fields)) r.0 input r.1 ∙ ap (behind r.0) (leaves_read fields input r.1))
-    ∙ first_flat field fields (datum_at (out-Field field).schema input at) (λ a. fields_at (readers_of fields) [] input a)
-    ∙ ap (all_flat (field ∷ fields)) (bind_same (datum_at (out-Field field).schema input at) _ _ (λ r. sym (read_behind (readers_of fields) (r.0 ∷ []) input r.1)))
+leaves_read opened [] input at = refl
+leaves_read opened (field ∷ fields) input at =
+    ap (λ (rs : List Reader). fields_at rs [] input at) (map-append (λ (leaf : Leaf). datum_at leaf.schema) (leaves_of_field opened field) (leaves opened fields))
+    ∙ read_both (leaf_readers (leaves_of_field opened field)) (leaf_readers (leaves opened fields)) [] input at
+    ∙ ap (λ (r : Answer). r >>= λ r. fields_at (leaf_readers (leaves opened fields)) r.0 input r.1) (opened_flat (opened (out-Field field).id) field input at)
+    ∙ bind_same (flat_of (opened (out-Field field).id) field (datum_at (out-Field field).schema input at)) _ _ (λ r. read_behind (leaf_readers (leaves opened fields)) r.0 input r.1 ∙ ap (behind r.0) (leaves_read opened fields input r.1))
+    ∙ first_flat opened field fields (datum_at (out-Field field).schema input at) (λ a. fields_at (readers_of fields) [] input a)
+    ∙ ap (all_flat opened (field ∷ fields)) (bind_same (datum_at (out-Field field).schema input at) _ _ (λ r. sym (read_behind (readers_of fields) (r.0 ∷ []) input r.1)))

@@ -1,35 +1,7 @@
 -- Reading the fields whose values take bytes, one behind the other, is reading all fields.
-use Rattle.std.proofs.Common.{
-  ◌≡◌,
-  ℕ,
-  zero,
-  suc,
-  ◌+◌,
-  ◌-◌,
-  true,
-  false,
-  Bool,
-  List,
-  [],
-  ◌∷◌,
-  ◌++◌,
-  map,
-  length,
-  get_or,
-  Result,
-  Ok,
-  Err,
-  refl,
-  sym,
-  ap,
-  ap₂,
-  ◌∙◌,
-  subst,
-  inl,
-  inr,
-  arith,
-}
-use Rattle.std.specs.Prelude.{slice_get, slice_range, nat_lt, is_some, ◌&&◌, ◌==◌, if◌then◌else◌}
+use Rattle.std.proofs.Common.{◌≡◌, ℕ, zero, suc, ◌+◌, ◌-◌, true, false, Bool, List, [], ◌∷◌, ◌++◌, length}
+use Rattle.std.proofs.Common.{get_or, Result, Ok, Err, refl, sym, ap, ◌∙◌, subst, inl, inr, arith}
+use Rattle.std.specs.Prelude.{slice_get, slice_range, nat_lt, is_some, ◌&&◌, ◌==◌}
 use Rattle.std.specs.declared.option.Option.{Option}
 use Rattle.std.specs.declared.option.Option.TheVariants.{Some, None}
 use Rattle.std.proofs.lemmas.Bool.{cases_Bool, eqb-true, le-ltb, false≢true}
@@ -40,8 +12,9 @@ use Rattle.schema_tree.specs.declared.schema.Schema.TheVariants as schemas
 use Rattle.schema_tree.specs.declared.schema.Schema.TheViews.{roll-Schema, roll-out-Schema}
 use Rattle.schema_tree.specs.declared.schema.Schema.TheFolds.{fold-Field, fold_out-Field}
 use Rattle.schema_tree.specs.declared.schema.Field.{Field, out-Field}
-use Rattle.schema_tree.specs.Equations.{fold_boolean, fold_int, fold_long, fold_float, fold_double, fold_raw, fold_str, fold_fixed, fold_enum, fold_rec, fold_array, fold_map, fold_union}
-use Rattle.schema_tree.specs.Inductions.{Each, Cases, every}
+use Rattle.schema_tree.specs.Equations.{fold_boolean, fold_int, fold_long, fold_float, fold_double, fold_raw}
+use Rattle.schema_tree.specs.Equations.{fold_str, fold_fixed, fold_enum, fold_rec, fold_array, fold_map, fold_union}
+use Rattle.schema_tree.specs.Inductions.{Each, every}
 use Rattle.datum_reading.specs.declared.cursor.Cursor.{Cursor}
 use Rattle.datum_tree.specs.declared.datum.Datum.{Datum}
 use Rattle.datum_tree.specs.declared.datum.Datum.TheVariants as datums
@@ -51,8 +24,10 @@ use Rattle.datum_reading.specs.Layers.{reads-Null, reads-Fixed, reads-Rec}
 use Rattle.datum_reading.specs.Readers.{readers_of}
 use Rattle.cell_reading.specs.Kind.{Level, nullable_level}
 use Rattle.cell_reading.specs.Form.{form_as, form_of}
-use Rattle.fields.specs.Flat.{Leaf, leaf_readers}
-use Rattle.fields.specs.Kept.{empty_of, empty_field, is_empty, are_empty, is_bare, kept, kept_values, slot_of, behind_slot, slots}
+use Rattle.fields.specs.declared.leaf.Leaf.{Leaf}
+use Rattle.fields.specs.Flat.{leaf_readers}
+use Rattle.fields.specs.Kept.{empty_of, empty_field, is_empty, are_empty, is_bare, kept, kept_values}
+use Rattle.fields.specs.Kept.{slots}
 use Rattle.fields.proofs.FlatLaws.{Answer, behind, bind_same, read_behind}
 
 -- ---- values that take no bytes

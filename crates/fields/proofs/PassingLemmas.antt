@@ -1,11 +1,13 @@
 -- The first required field that is null, found in the order of a record's fields.
-use Rattle.std.proofs.Common.{◌≡◌, ℕ, zero, suc, ◌+◌, ◌<◌, ◌≤◌, true, false, Bool, List, [], ◌∷◌, ◌++◌, length, map, get_or, Result, Ok, Err, refl, sym, ap, ap₂, ◌∙◌, subst, inl, inr, arith, length-append}
-use Rattle.std.specs.Prelude.{◌==◌, ◌&&◌, ◌||◌, nat_lt, slice_get, if◌then◌else◌}
+use Rattle.std.proofs.Common.{◌≡◌, ℕ, zero, suc, ◌+◌, ◌<◌, ◌≤◌, true, false, Bool, List, [], ◌∷◌, ◌++◌, length, map}
+use Rattle.std.proofs.Common.{get_or, Result, Ok, Err, refl, sym, ap, ap₂, ◌∙◌, subst, inl, inr, arith, length-append}
+use Rattle.std.specs.Prelude.{◌==◌, ◌&&◌, ◌||◌, nat_lt, if◌then◌else◌}
 use Rattle.std.specs.declared.option.Option.{Option}
-use Rattle.std.specs.declared.option.Option.TheVariants.{Some, None}
+use Rattle.std.specs.declared.option.Option.TheVariants.{Some}
 use Rattle.std.proofs.lemmas.List.{length-map}
-use Rattle.std.proofs.lemmas.Bool.{cases_Bool, lt-ltb, ltb-true, le-ltb, ltb-false, eq-eqb, eqb-true, false_from_ne_true, false≢true}
-use Rattle.words.specs.Reading.{◌>>=◌, map_value}
+use Rattle.std.proofs.lemmas.Bool.{cases_Bool, lt-ltb, ltb-true, le-ltb, ltb-false, eq-eqb, eqb-true}
+use Rattle.std.proofs.lemmas.Bool.{false_from_ne_true, false≢true}
+use Rattle.words.specs.Reading.{map_value}
 use Rattle.words.specs.Steps.{ok_is, bind_then, map_then}
 use Rattle.row_types.specs.declared.cell.Cell.{Cell}
 use Rattle.row_types.specs.declared.cell.Cell.TheVariants as cells
@@ -26,12 +28,15 @@ use Rattle.fields.specs.declared.refusal.FieldRefusal.TheVariants.{MissingField}
 use Rattle.cell_reading.specs.declared.form.Form.{Form}
 use Rattle.cell_reading.specs.Kind.{Level}
 use Rattle.cell_reading.specs.Form.{form_of}
-use Rattle.fields.specs.Flat.{Leaf, leaves, leaf_readers}
+use Rattle.fields.specs.declared.leaf.Leaf.{Leaf}
+use Rattle.fields.specs.Flat.{Opens, leaves, leaf_readers}
 use Rattle.fields.specs.Kept.{kept, kept_values}
-use Rattle.fields.specs.Wanted.{fields_of_level, fields_of, source, is_none, check_missing, check_nulls}
+use Rattle.fields.specs.Wanted.{fields_of_level, fields_of, opens, source, is_none, check_missing, check_nulls}
 use Rattle.fields.specs.Nulls.{first_of, is_at, needed_from, with_null, with_nulls, refused_at}
-use Rattle.fields.specs.Record.{datum_refusal, start, record_at, read_as, read_cells, field_as, null_as, value_as, pick, place_in, first_as, passed_at}
-use Rattle.fields.proofs.TakingLemmas.{read_more, IsPlaced, is_placed, record_as, record_right, record_null, record_fails}
+use Rattle.fields.specs.Record.{datum_refusal, start, read_as, read_cells, field_as, null_as, value_as}
+use Rattle.fields.specs.Record.{pick, place_in, first_as, passed_at}
+use Rattle.fields.proofs.TakingLemmas.{read_more, IsPlaced, is_placed, record_as, record_right, record_null}
+use Rattle.fields.proofs.TakingLemmas.{record_fails}
 
 abbrev Test : Type 0
 Test = Option ℕ → Bool
@@ -269,66 +274,66 @@ leaves_long [] = refl
 leaves_long (field ∷ fields) = ap suc (leaves_long fields)
 
 -- what reading a record answers
-abbrev whole : Schema → List ℕ → Cursor → Result (List Cell × Cursor) DatumRefusal
-whole schema input at = value_as (fields_of schema) (datum_at schema input at)
+abbrev whole : Opens → Schema → List ℕ → Cursor → Result (List Cell × Cursor) DatumRefusal
+whole opened schema input at = value_as opened (fields_of schema) (datum_at schema input at)
 
 -- the cells of a record
-wide_record : (schema : Schema) (name : List ℕ) (fields : List Field) (input : List ℕ) (at : Cursor) (read : List Cell) (after : Cursor) → schema ≡ schemas.Rec name fields → whole schema input at ≡ Ok (read, after)
-    → length read ≡ length (kept (leaves (fields_of schema)))
-wide_record schema name fields input at read after is got =
-    let all = kept (leaves (fields_of schema)) in
-    let as_fields = sym (record_as schema name fields input at is) ∙ got in
+wide_record : (opened : Opens) (schema : Schema) (name : List ℕ) (fields : List Field) (input : List ℕ) (at : Cursor) (read : List Cell) (after : Cursor) → schema ≡ schemas.Rec name fields → whole opened schema input at ≡ Ok (read, after)
+    → length read ≡ length (kept (leaves opened (fields_of schema)))
+wide_record opened schema name fields input at read after is got =
+    let all = kept (leaves opened (fields_of schema)) in
+    let as_fields = sym (record_as opened schema name fields input at is) ∙ got in
     map_then (λ (r : List Datum × Cursor). (read_cells all r.0, r.1)) (fields_at (leaf_readers all) [] input at) (read, after) as_fields (λ x was view.
     let long = fields_long (leaf_readers all) [] input at x was in
     sym (ap (λ (p : List Cell × Cursor). length p.0) view) ∙ cells_long all x.0 (omega (arith, long, leaves_long all)))
 
 -- those of a value without fields
-wide_none : (fields : List Field) (answer : Result (Datum × Cursor) DatumRefusal) (read : List Cell) (after : Cursor) → fields ≡ [] → value_as fields answer ≡ Ok (read, after) → length read ≡ length (kept (leaves fields))
+wide_none : (opened : Opens) (fields : List Field) (answer : Result (Datum × Cursor) DatumRefusal) (read : List Cell) (after : Cursor) → fields ≡ [] → value_as opened fields answer ≡ Ok (read, after) → length read ≡ length (kept (leaves opened fields))
 unfolding read_cells kept kept_values
-wide_none (field ∷ fields) answer read after none got = absurd cc
-wide_none [] (Err e) read after none got = absurd cc
-wide_none [] (Ok answer) read after none got =
+wide_none opened (field ∷ fields) answer read after none got = absurd cc
+wide_none opened [] (Err e) read after none got = absurd cc
+wide_none opened [] (Ok answer) read after none got =
     let same = ok_is ([], answer.1) (read, after) got in
     sym (ap (λ (p : List Cell × Cursor). length p.0) same)
 
 -- there is a cell for each field whose values take bytes
-wide_level : (schema : Schema) (level : Level) → out-Schema schema ≡ level → (input : List ℕ) (at : Cursor) (read : List Cell) (after : Cursor) → whole schema input at ≡ Ok (read, after)
-    → length read ≡ length (kept (leaves (fields_of schema)))
-wide_level schema (types.Rec name fields) is input at read after got = wide_record schema name fields input at read after (sym (roll-out-Schema schema) ∙ ap roll-Schema is ∙ schemas.rolls-Rec name fields) got
-wide_level schema types.Null is input at read after got = wide_none (fields_of schema) (datum_at schema input at) read after (ap fields_of_level is) got
-wide_level schema types.Boolean is input at read after got = wide_none (fields_of schema) (datum_at schema input at) read after (ap fields_of_level is) got
-wide_level schema (types.Int l) is input at read after got = wide_none (fields_of schema) (datum_at schema input at) read after (ap fields_of_level is) got
-wide_level schema (types.Long l) is input at read after got = wide_none (fields_of schema) (datum_at schema input at) read after (ap fields_of_level is) got
-wide_level schema types.Float is input at read after got = wide_none (fields_of schema) (datum_at schema input at) read after (ap fields_of_level is) got
-wide_level schema types.Double is input at read after got = wide_none (fields_of schema) (datum_at schema input at) read after (ap fields_of_level is) got
-wide_level schema types.Raw is input at read after got = wide_none (fields_of schema) (datum_at schema input at) read after (ap fields_of_level is) got
-wide_level schema types.Str is input at read after got = wide_none (fields_of schema) (datum_at schema input at) read after (ap fields_of_level is) got
-wide_level schema (types.Fixed name size) is input at read after got = wide_none (fields_of schema) (datum_at schema input at) read after (ap fields_of_level is) got
-wide_level schema (types.Enum name symbols) is input at read after got = wide_none (fields_of schema) (datum_at schema input at) read after (ap fields_of_level is) got
-wide_level schema (types.Array items id keyed) is input at read after got = wide_none (fields_of schema) (datum_at schema input at) read after (ap fields_of_level is) got
-wide_level schema (types.Map values key value) is input at read after got = wide_none (fields_of schema) (datum_at schema input at) read after (ap fields_of_level is) got
-wide_level schema (types.Union branches) is input at read after got = wide_none (fields_of schema) (datum_at schema input at) read after (ap fields_of_level is) got
+wide_level : (opened : Opens) (schema : Schema) (level : Level) → out-Schema schema ≡ level → (input : List ℕ) (at : Cursor) (read : List Cell) (after : Cursor) → whole opened schema input at ≡ Ok (read, after)
+    → length read ≡ length (kept (leaves opened (fields_of schema)))
+wide_level opened schema (types.Rec name fields) is input at read after got = wide_record opened schema name fields input at read after (sym (roll-out-Schema schema) ∙ ap roll-Schema is ∙ schemas.rolls-Rec name fields) got
+wide_level opened schema types.Null is input at read after got = wide_none opened (fields_of schema) (datum_at schema input at) read after (ap fields_of_level is) got
+wide_level opened schema types.Boolean is input at read after got = wide_none opened (fields_of schema) (datum_at schema input at) read after (ap fields_of_level is) got
+wide_level opened schema (types.Int l) is input at read after got = wide_none opened (fields_of schema) (datum_at schema input at) read after (ap fields_of_level is) got
+wide_level opened schema (types.Long l) is input at read after got = wide_none opened (fields_of schema) (datum_at schema input at) read after (ap fields_of_level is) got
+wide_level opened schema types.Float is input at read after got = wide_none opened (fields_of schema) (datum_at schema input at) read after (ap fields_of_level is) got
+wide_level opened schema types.Double is input at read after got = wide_none opened (fields_of schema) (datum_at schema input at) read after (ap fields_of_level is) got
+wide_level opened schema types.Raw is input at read after got = wide_none opened (fields_of schema) (datum_at schema input at) read after (ap fields_of_level is) got
+wide_level opened schema types.Str is input at read after got = wide_none opened (fields_of schema) (datum_at schema input at) read after (ap fields_of_level is) got
+wide_level opened schema (types.Fixed name size) is input at read after got = wide_none opened (fields_of schema) (datum_at schema input at) read after (ap fields_of_level is) got
+wide_level opened schema (types.Enum name symbols) is input at read after got = wide_none opened (fields_of schema) (datum_at schema input at) read after (ap fields_of_level is) got
+wide_level opened schema (types.Array items id keyed) is input at read after got = wide_none opened (fields_of schema) (datum_at schema input at) read after (ap fields_of_level is) got
+wide_level opened schema (types.Map values key value) is input at read after got = wide_none opened (fields_of schema) (datum_at schema input at) read after (ap fields_of_level is) got
+wide_level opened schema (types.Union branches) is input at read after got = wide_none opened (fields_of schema) (datum_at schema input at) read after (ap fields_of_level is) got
 
 -- a record that is passed, and its cells
 record ReadFirst (schema : Schema) (wanted : List Wanted) (sources : List (Option ℕ)) (input : List ℕ) (at : Cursor) (first : ℕ) (after : Cursor) : Type 0 where
   read : List Cell
-  is : whole schema input at ≡ Ok (read, after)
+  is : whole (opens wanted) schema input at ≡ Ok (read, after)
   same : check_nulls wanted (map (pick read) sources) ≡ refused_at wanted first
 
 -- what is passed is read
 first_read : (schema : Schema) (wanted : List Wanted) (sources : List (Option ℕ)) (needed : List ℕ) (many : ℕ) (input : List ℕ) (at : Cursor) (first : ℕ) (after : Cursor)
-    → sources ≡ map (place_in (leaves (fields_of schema))) wanted → needed ≡ needed_from wanted sources 0 many → many ≡ length (kept (leaves (fields_of schema))) → check_missing (leaves (fields_of schema)) wanted ≡ Ok tt
-    → first_as (length wanted) needed (whole schema input at) ≡ Ok (first, after) → ReadFirst schema wanted sources input at first after
+    → sources ≡ map (place_in (leaves (opens wanted) (fields_of schema))) wanted → needed ≡ needed_from wanted sources 0 many → many ≡ length (kept (leaves (opens wanted) (fields_of schema))) → check_missing (leaves (opens wanted) (fields_of schema)) wanted ≡ Ok tt
+    → first_as (length wanted) needed (whole (opens wanted) schema input at) ≡ Ok (first, after) → ReadFirst schema wanted sources input at first after
 first_read schema wanted sources needed many input at first after sources_are needed_are many_is there got =
-    map_then (λ (r : List Cell × Cursor). (with_nulls (length wanted) needed r.0, r.1)) (whole schema input at) (first, after) got (λ x was view.
+    map_then (λ (r : List Cell × Cursor). (with_nulls (length wanted) needed r.0, r.1)) (whole (opens wanted) schema input at) (first, after) got (λ x was view.
     let behind : x.1 ≡ after = ap (λ (p : ℕ × Cursor). p.1) view in
-    let wide : length x.0 ≡ many = wide_level schema (out-Schema schema) refl input at x.0 x.1 was ∙ sym many_is in
+    let wide : length x.0 ≡ many = wide_level (opens wanted) schema (out-Schema schema) refl input at x.0 x.1 was ∙ sym many_is in
     let found : with_nulls (length wanted) needed x.0 ≡ first = ap (λ (p : ℕ × Cursor). p.0) view in
     let nulls : first_of (null_from 0 x.0) wanted sources ≡ first =
     sym (ap (λ (ns : List ℕ). with_nulls (length wanted) ns x.0) needed_are ∙ nulls_read x.0 many wanted sources (omega (arith, wide))) ∙ found in
     let placed : Placed (length x.0) wanted sources =
-    subst (λ (ss : List (Option ℕ)). Placed (length x.0) wanted ss) (sym sources_are) (subst (λ (n : ℕ). Placed n wanted (map (place_in (leaves (fields_of schema))) wanted)) (sym (wide ∙ many_is)) (all_placed (leaves (fields_of schema)) wanted there)) in
-    let each : length sources ≡ length wanted = ap length sources_are ∙ length-map wanted (place_in (leaves (fields_of schema))) in
+    subst (λ (ss : List (Option ℕ)). Placed (length x.0) wanted ss) (sym sources_are) (subst (λ (n : ℕ). Placed n wanted (map (place_in (leaves (opens wanted) (fields_of schema))) wanted)) (sym (wide ∙ many_is)) (all_placed (leaves (opens wanted) (fields_of schema)) wanted there)) in
+    let each : length sources ≡ length wanted = ap length sources_are ∙ length-map wanted (place_in (leaves (opens wanted) (fields_of schema))) in
     record {
       read = x.0;
       is = was ∙ ap (λ (c : Cursor). Ok (x.0, c)) behind;
@@ -337,16 +342,16 @@ first_read schema wanted sources needed many input at first after sources_are ne
 
 -- a record that is right
 pub pass_right : (schema : Schema) (wanted : List Wanted) (sources : List (Option ℕ)) (needed : List ℕ) (many : ℕ) (input : List ℕ) (place first : ℕ) (after : Cursor)
-    → sources ≡ map (place_in (leaves (fields_of schema))) wanted → needed ≡ needed_from wanted sources 0 many → many ≡ length (kept (leaves (fields_of schema))) → check_missing (leaves (fields_of schema)) wanted ≡ Ok tt
-    → first_as (length wanted) needed (whole schema input (start place)) ≡ Ok (first, after) → refused_at wanted first ≡ Ok tt → passed_at schema wanted input place ≡ Ok after.place
+    → sources ≡ map (place_in (leaves (opens wanted) (fields_of schema))) wanted → needed ≡ needed_from wanted sources 0 many → many ≡ length (kept (leaves (opens wanted) (fields_of schema))) → check_missing (leaves (opens wanted) (fields_of schema)) wanted ≡ Ok tt
+    → first_as (length wanted) needed (whole (opens wanted) schema input (start place)) ≡ Ok (first, after) → refused_at wanted first ≡ Ok tt → passed_at schema wanted input place ≡ Ok after.place
 pass_right schema wanted sources needed many input place first after sources_are needed_are many_is there got right =
     let r = first_read schema wanted sources needed many input (start place) first after sources_are needed_are many_is there got in
     ap (map_value (λ read. read.1)) (record_right schema wanted input place sources r.read (map (pick r.read) sources) after sources_are r.is refl (r.same ∙ right))
 
 -- a record with a null where something is required
 pub pass_null : (schema : Schema) (wanted : List Wanted) (sources : List (Option ℕ)) (needed : List ℕ) (many : ℕ) (input : List ℕ) (place first : ℕ) (after : Cursor) (e : FieldRefusal)
-    → sources ≡ map (place_in (leaves (fields_of schema))) wanted → needed ≡ needed_from wanted sources 0 many → many ≡ length (kept (leaves (fields_of schema))) → check_missing (leaves (fields_of schema)) wanted ≡ Ok tt
-    → first_as (length wanted) needed (whole schema input (start place)) ≡ Ok (first, after) → refused_at wanted first ≡ Err e → passed_at schema wanted input place ≡ Err e
+    → sources ≡ map (place_in (leaves (opens wanted) (fields_of schema))) wanted → needed ≡ needed_from wanted sources 0 many → many ≡ length (kept (leaves (opens wanted) (fields_of schema))) → check_missing (leaves (opens wanted) (fields_of schema)) wanted ≡ Ok tt
+    → first_as (length wanted) needed (whole (opens wanted) schema input (start place)) ≡ Ok (first, after) → refused_at wanted first ≡ Err e → passed_at schema wanted input place ≡ Err e
 pass_null schema wanted sources needed many input place first after e sources_are needed_are many_is there got wrong =
     let r = first_read schema wanted sources needed many input (start place) first after sources_are needed_are many_is there got in
     ap (map_value (λ read. read.1)) (record_null schema wanted input place sources r.read (map (pick r.read) sources) after e sources_are r.is refl (r.same ∙ wrong))
@@ -357,17 +362,17 @@ first_refused none needed (Ok read) e is = absurd cc
 first_refused none needed (Err d) e is = cc
 
 pub pass_fails : (schema : Schema) (wanted : List Wanted) (needed : List ℕ) (input : List ℕ) (place none : ℕ) (e : DatumRefusal)
-    → first_as none needed (whole schema input (start place)) ≡ Err e → passed_at schema wanted input place ≡ Err (datum_refusal e)
+    → first_as none needed (whole (opens wanted) schema input (start place)) ≡ Err e → passed_at schema wanted input place ≡ Err (datum_refusal e)
 pass_fails schema wanted needed input place none e got =
-    ap (map_value (λ read. read.1)) (record_fails schema wanted input place e (first_refused none needed (whole schema input (start place)) e got))
+    ap (map_value (λ read. read.1)) (record_fails schema wanted input place e (first_refused none needed (whole (opens wanted) schema input (start place)) e got))
 
 -- a schema without fields has no nulls
-pub none_first : (fields : List Field) (none : ℕ) (needed : List ℕ) (read : Result (Datum × Cursor) DatumRefusal) → fields ≡ [] → first_as none needed (value_as fields read) ≡ map_value (λ after. (none, after)) (passed read)
+pub none_first : (opened : Opens) (fields : List Field) (none : ℕ) (needed : List ℕ) (read : Result (Datum × Cursor) DatumRefusal) → fields ≡ [] → first_as none needed (value_as opened fields read) ≡ map_value (λ after. (none, after)) (passed read)
 unfolding read_cells kept kept_values with_nulls
-none_first [] none [] (Ok read) empty = refl
-none_first [] none (n ∷ needed) (Ok read) empty = refl
-none_first (field ∷ fields) none needed (Ok read) empty = absurd cc
-none_first fields none needed (Err e) empty = refl
+none_first opened [] none [] (Ok read) empty = refl
+none_first opened [] none (n ∷ needed) (Ok read) empty = refl
+none_first opened (field ∷ fields) none needed (Ok read) empty = absurd cc
+none_first opened fields none needed (Err e) empty = refl
 
 -- ---- fields, one behind the other
 

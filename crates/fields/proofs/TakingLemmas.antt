@@ -1,6 +1,7 @@
 -- The cells of a record's fields, one behind the other, and those of them that are wanted.
-use Rattle.std.proofs.Common.{◌≡◌, ℕ, zero, suc, ◌+◌, ◌<◌, ◌≤◌, true, false, Bool, List, [], ◌∷◌, ◌++◌, length, map, get_or, set, take, drop, Result, Ok, Err, refl, sym, ap, ap₂, subst, ◌∙◌, arith, length-append}
-use Rattle.std.specs.Prelude.{ℤ, slice_get, is_some, is_ok, if◌then◌else◌}
+use Rattle.std.proofs.Common.{◌≡◌, ℕ, zero, suc, ◌+◌, ◌<◌, ◌≤◌, true, false, Bool, List, [], ◌∷◌, ◌++◌, length, map}
+use Rattle.std.proofs.Common.{get_or, set, take, drop, Result, Ok, Err, refl, sym, ap, ap₂, subst, ◌∙◌, arith}
+use Rattle.std.specs.Prelude.{slice_get, is_some, is_ok, if◌then◌else◌}
 use Rattle.std.specs.declared.option.Option.{Option}
 use Rattle.std.specs.declared.option.Option.TheVariants.{Some, None}
 use Rattle.std.proofs.lemmas.List.{take_more_set, take_all, drop_more, drop_all, map-append, nil_from_length}
@@ -21,18 +22,22 @@ use Rattle.datum_reading.specs.Layers.{reads-Rec}
 use Rattle.cell_reading.specs.declared.form.Form.{Form}
 use Rattle.cell_reading.specs.declared.kind.Primitive.{Primitive}
 use Rattle.fields.specs.declared.wanted.Wanted.{Wanted}
-use Rattle.cell_reading.specs.Kind.{Level, Nullable, nullable, primitive_of, holds_as, holds, is_allowed_as, is_allowed}
+use Rattle.cell_reading.specs.Kind.{Level, Nullable, nullable, primitive_of, holds_as, is_allowed_as, is_allowed}
 use Rattle.row_types.specs.declared.cell_ref.CellRef.{CellRef}
 use Rattle.row_types.specs.CellRef.{lent_cell}
 use Rattle.cell_reading.specs.Form.{null_branch, form_with, form_as, form_of}
 use Rattle.fields.specs.declared.refusal.FieldRefusal.{FieldRefusal}
-use Rattle.fields.specs.Flat.{Leaf, leaves, flat_values, leaf_readers}
+use Rattle.fields.specs.declared.leaf.Leaf.{Leaf}
+use Rattle.fields.specs.Flat.{Opens, leaves, flat_values, leaf_readers}
 use Rattle.fields.specs.Kept.{kept, kept_values, slots, slot_at}
 use Rattle.fields.proofs.FlatLaws.{all_flat, leaves_read}
 use Rattle.fields.proofs.KeptLaws.{some_is, leaf_takes, kept_of, is_kept, slot_is, kept_read}
 use Rattle.cell_reading.specs.Value.{cell_of, values_of_level, values_of}
-use Rattle.fields.specs.Wanted.{fields_of_level, fields_of, check_nulls, Found, is_this, find_from, find, source_as, source, cell_at, cells_with, is_none}
-use Rattle.fields.specs.Record.{datum_refusal, forms_of, start, record_at, read_as, read_cells, field_as, fields_as, kept_cells, value_as, pick, place_in}
+use Rattle.fields.specs.Wanted.{fields_of_level, fields_of, opens, check_nulls, Found, is_this, find_from, find}
+use Rattle.fields.specs.Wanted.{source_as}
+use Rattle.fields.specs.Wanted.{source, cell_at, cells_with, is_none}
+use Rattle.fields.specs.Record.{datum_refusal, forms_of, start, record_at, read_as, read_cells, field_as, fields_as}
+use Rattle.fields.specs.Record.{kept_cells, value_as, pick, place_in}
 
 -- ---- fields, one behind the other
 
@@ -249,81 +254,93 @@ unfolding fields_at
 leaves_end leaves i before input at total le so_far = sym so_far ∙ ap (λ (ls : List Leaf). fields_at (leaf_readers ls) before input at) (drop_all i leaves le)
 
 -- the values of a record are those of its fields
-values_read : (fields : List Field) (read : Result (List Datum × Cursor) DatumRefusal)
-    → value_as fields (map_value (λ read. (datums.Rec read.0, read.1)) read)
-    ≡ fields_as (kept (leaves fields)) (kept_of (leaves fields) (all_flat fields read))
-values_read fields (Ok read) = ap (λ level. Ok (read_cells (kept (leaves fields)) (kept_values (leaves fields) (flat_values fields (values_of_level level))), read.1)) (datums.outs-Rec read.0)
-values_read fields (Err e) = refl
+values_read : (opened : Opens) (fields : List Field) (read : Result (List Datum × Cursor) DatumRefusal)
+    → value_as opened fields (map_value (λ read. (datums.Rec read.0, read.1)) read)
+    ≡ fields_as (kept (leaves opened fields)) (kept_of (leaves opened fields) (all_flat opened fields read))
+values_read opened fields (Ok read) = ap (λ level. Ok (read_cells (kept (leaves opened fields)) (kept_values (leaves opened fields) (flat_values opened fields (values_of_level level))), read.1)) (datums.outs-Rec read.0)
+values_read opened fields (Err e) = refl
 
 -- reading the fields that take bytes is reading those of the record
-all_read : (fields : List Field) (input : List ℕ) (at : Cursor)
-    → kept_of (leaves fields) (all_flat fields (fields_at (readers_of fields) [] input at))
-    ≡ fields_at (leaf_readers (kept (leaves fields))) [] input at
-all_read fields input at = ap (kept_of (leaves fields)) (sym (leaves_read fields input at)) ∙ sym (kept_read (leaves fields) input at)
+all_read : (opened : Opens) (fields : List Field) (input : List ℕ) (at : Cursor)
+    → kept_of (leaves opened fields) (all_flat opened fields (fields_at (readers_of fields) [] input at))
+    ≡ fields_at (leaf_readers (kept (leaves opened fields))) [] input at
+all_read opened fields input at = ap (kept_of (leaves opened fields)) (sym (leaves_read opened fields input at)) ∙ sym (kept_read (leaves opened fields) input at)
 
 -- a record's cells are those of its fields, and of the records in it
-pub record_as : (schema : Schema) (name : List ℕ) (fields : List Field) (input : List ℕ) (at : Cursor) → schema ≡ schemas.Rec name fields
-    → value_as (fields_of schema) (datum_at schema input at) ≡ fields_as (kept (leaves (fields_of schema))) (fields_at (leaf_readers (kept (leaves (fields_of schema)))) [] input at)
-record_as schema name fields input at is =
+pub record_as : (opened : Opens) (schema : Schema) (name : List ℕ) (fields : List Field) (input : List ℕ) (at : Cursor) → schema ≡ schemas.Rec name fields
+    → value_as opened (fields_of schema) (datum_at schema input at) ≡ fields_as (kept (leaves opened (fields_of schema))) (fields_at (leaf_readers (kept (leaves opened (fields_of schema)))) [] input at)
+record_as opened schema name fields input at is =
     let own : fields_of schema ≡ fields = ap fields_of is ∙ ap fields_of_level (schemas.outs-Rec name fields) in
     let read = ap (λ (s : Schema). datum_at s input at) is ∙ reads-Rec name fields input at in
-    let flat = values_read fields (fields_at (readers_of fields) [] input at) ∙ ap (fields_as (kept (leaves fields))) (all_read fields input at) in
-    ap (λ (fs : List Field). value_as fs (datum_at schema input at)) own ∙ ap (value_as fields) read ∙ flat
-    ∙ ap (λ (fs : List Field). fields_as (kept (leaves fs)) (fields_at (leaf_readers (kept (leaves fs))) [] input at)) (sym own)
+    let flat = values_read opened fields (fields_at (readers_of fields) [] input at) ∙ ap (fields_as (kept (leaves opened fields))) (all_read opened fields input at) in
+    ap (λ (fs : List Field). value_as opened fs (datum_at schema input at)) own ∙ ap (value_as opened fields) read ∙ flat
+    ∙ ap (λ (fs : List Field). fields_as (kept (leaves opened fs)) (fields_at (leaf_readers (kept (leaves opened fs))) [] input at)) (sym own)
 
 -- what is passed of a schema without fields has no cells
-pub none_passed : (fields : List Field) (all : List Cell) (read : Result (Datum × Cursor) DatumRefusal) (result : Result Cursor DatumRefusal) → fields ≡ [] → all ≡ [] → Gives never (λ after. after) result (passed read) → Gives never (λ after. (all, after)) result (value_as fields read)
+pub none_passed : (opened : Opens) (fields : List Field) (all : List Cell)
+    (read : Result (Datum × Cursor) DatumRefusal) (result : Result Cursor DatumRefusal) → fields ≡ [] → all ≡ []
+    → Gives never (λ after. after) result (passed read)
+    → Gives never (λ after. (all, after)) result (value_as opened fields read)
 unfolding read_cells kept kept_values
-none_passed fields all (Ok (value, at)) (Ok after) none empty gives =
+none_passed opened fields all (Ok (value, at)) (Ok after) none empty gives =
     let same : at ≡ after = cc in
     rw (none, empty) (ap (λ (c : Cursor). Ok ([], c)) same)
-none_passed fields all (Ok read) (Err e) none empty gives = absurd cc
-none_passed fields all (Err d) (Ok after) none empty gives = absurd cc
-none_passed fields all (Err d) (Err e) none empty gives = cc
+none_passed opened fields all (Ok read) (Err e) none empty gives = absurd cc
+none_passed opened fields all (Err d) (Ok after) none empty gives = absurd cc
+none_passed opened fields all (Err d) (Err e) none empty gives = cc
 
 -- a value that was read, and its cells
-pub record WasRead (fields : List Field) (read : Result (Datum × Cursor) DatumRefusal) (all : List Cell) (after : Cursor) : Type 0 where
+pub record WasRead (opened : Opens) (fields : List Field) (read : Result (Datum × Cursor) DatumRefusal) (all : List Cell) (after : Cursor) : Type 0 where
   pub value : Datum
   pub is : read ≡ Ok (value, after)
-  pub cells_are : all ≡ kept_cells fields value
+  pub cells_are : all ≡ kept_cells opened fields value
 
-pub record_was : (fields : List Field) (read : Result (Datum × Cursor) DatumRefusal) (all : List Cell) (after : Cursor) → value_as fields read ≡ Ok (all, after) → WasRead fields read all after
-record_was fields (Ok (value, at)) all after is =
-    let both : (kept_cells fields value, at) ≡ (all, after) = cc in record {
+pub record_was : (opened : Opens) (fields : List Field) (read : Result (Datum × Cursor) DatumRefusal) (all : List Cell) (after : Cursor) → value_as opened fields read ≡ Ok (all, after) → WasRead opened fields read all after
+record_was opened fields (Ok (value, at)) all after is =
+    let both : (kept_cells opened fields value, at) ≡ (all, after) = cc in record {
       value = value;
       is = ap (λ (c : Cursor). Ok (value, c)) (ap (λ (p : List Cell × Cursor). p.1) both);
       cells_are = sym (ap (λ (p : List Cell × Cursor). p.0) both);
     }
-record_was fields (Err e) all after is = absurd cc
+record_was opened fields (Err e) all after is = absurd cc
 
 -- the cells that are wanted of a value
-wanted_are : (fields : List Field) (wanted : List Wanted) (sources : List (Option ℕ)) (all cells : List Cell) (value : Datum) → all ≡ kept_cells fields value → sources ≡ map (place_in (leaves fields)) wanted → cells ≡ map (pick all) sources → cells_with wanted (leaves fields) (flat_values fields (values_of value)) ≡ cells
-wanted_are fields wanted sources all cells value all_are sources_are cells_are = sym (picked_all (leaves fields) (flat_values fields (values_of value)) wanted) ∙ ap₂ (λ (a : List Cell) (s : List (Option ℕ)). map (pick a) s) (sym all_are) (sym sources_are) ∙ sym cells_are
+wanted_are : (opened : Opens) (fields : List Field) (wanted : List Wanted) (sources : List (Option ℕ))
+    (all cells : List Cell) (value : Datum) → all ≡ kept_cells opened fields value
+    → sources ≡ map (place_in (leaves opened fields)) wanted → cells ≡ map (pick all) sources
+    → cells_with wanted (leaves opened fields) (flat_values opened fields (values_of value)) ≡ cells
+wanted_are opened fields wanted sources all cells value all_are sources_are cells_are = sym (picked_all (leaves opened fields) (flat_values opened fields (values_of value)) wanted) ∙ ap₂ (λ (a : List Cell) (s : List (Option ℕ)). map (pick a) s) (sym all_are) (sym sources_are) ∙ sym cells_are
 
 -- a record that is right
-pub record_right : (schema : Schema) (wanted : List Wanted) (input : List ℕ) (place : ℕ) (sources : List (Option ℕ)) (all cells : List Cell) (after : Cursor) → sources ≡ map (place_in (leaves (fields_of schema))) wanted → value_as (fields_of schema) (datum_at schema input (start place)) ≡ Ok (all, after)
+pub record_right : (schema : Schema) (wanted : List Wanted) (input : List ℕ) (place : ℕ) (sources : List (Option ℕ))
+    (all cells : List Cell) (after : Cursor)
+    → sources ≡ map (place_in (leaves (opens wanted) (fields_of schema))) wanted → value_as (opens wanted)
+    (fields_of schema) (datum_at schema input (start place)) ≡ Ok (all, after)
     → cells ≡ map (pick all) sources → check_nulls wanted cells ≡ Ok tt → record_at schema wanted input place ≡ Ok (cells, after.place)
 unfolding record_at
 record_right schema wanted input place sources all cells after sources_are read cells_are nulls =
-    let was = record_was (fields_of schema) (datum_at schema input (start place)) all after read in
-    rw (was.is, wanted_are (fields_of schema) wanted sources all cells was.value was.cells_are sources_are cells_are, nulls) refl
+    let was = record_was (opens wanted) (fields_of schema) (datum_at schema input (start place)) all after read in
+    rw (was.is, wanted_are (opens wanted) (fields_of schema) wanted sources all cells was.value was.cells_are sources_are cells_are, nulls) refl
 
 -- a record with a null where something is required
-pub record_null : (schema : Schema) (wanted : List Wanted) (input : List ℕ) (place : ℕ) (sources : List (Option ℕ)) (all cells : List Cell) (after : Cursor) (e : FieldRefusal) → sources ≡ map (place_in (leaves (fields_of schema))) wanted → value_as (fields_of schema) (datum_at schema input (start place)) ≡ Ok (all, after)
+pub record_null : (schema : Schema) (wanted : List Wanted) (input : List ℕ) (place : ℕ) (sources : List (Option ℕ))
+    (all cells : List Cell) (after : Cursor) (e : FieldRefusal)
+    → sources ≡ map (place_in (leaves (opens wanted) (fields_of schema))) wanted → value_as (opens wanted)
+    (fields_of schema) (datum_at schema input (start place)) ≡ Ok (all, after)
     → cells ≡ map (pick all) sources → check_nulls wanted cells ≡ Err e → record_at schema wanted input place ≡ Err e
 unfolding record_at
 record_null schema wanted input place sources all cells after e sources_are read cells_are nulls =
-    let was = record_was (fields_of schema) (datum_at schema input (start place)) all after read in
-    rw (was.is, wanted_are (fields_of schema) wanted sources all cells was.value was.cells_are sources_are cells_are, nulls) refl
+    let was = record_was (opens wanted) (fields_of schema) (datum_at schema input (start place)) all after read in
+    rw (was.is, wanted_are (opens wanted) (fields_of schema) wanted sources all cells was.value was.cells_are sources_are cells_are, nulls) refl
 
 -- a value that is refused
-value_fails : (fields : List Field) (read : Result (Datum × Cursor) DatumRefusal) (e : DatumRefusal) → value_as fields read ≡ Err e → read ≡ Err e
-value_fails fields (Ok read) e is = absurd cc
-value_fails fields (Err d) e is = cc
+value_fails : (opened : Opens) (fields : List Field) (read : Result (Datum × Cursor) DatumRefusal) (e : DatumRefusal) → value_as opened fields read ≡ Err e → read ≡ Err e
+value_fails opened fields (Ok read) e is = absurd cc
+value_fails opened fields (Err d) e is = cc
 
-pub record_fails : (schema : Schema) (wanted : List Wanted) (input : List ℕ) (place : ℕ) (e : DatumRefusal) → value_as (fields_of schema) (datum_at schema input (start place)) ≡ Err e → record_at schema wanted input place ≡ Err (datum_refusal e)
+pub record_fails : (schema : Schema) (wanted : List Wanted) (input : List ℕ) (place : ℕ) (e : DatumRefusal) → value_as (opens wanted) (fields_of schema) (datum_at schema input (start place)) ≡ Err e → record_at schema wanted input place ≡ Err (datum_refusal e)
 unfolding record_at
-record_fails schema wanted input place e refused = rw (value_fails (fields_of schema) (datum_at schema input (start place)) e refused) refl
+record_fails schema wanted input place e refused = rw (value_fails (opens wanted) (fields_of schema) (datum_at schema input (start place)) e refused) refl
 
 -- ---- a record that is known to be right
 
@@ -332,18 +349,18 @@ known_not : {A E : Type 0} (r : Result A E) (e : E) → is_ok r ≡ true → r �
 known_not (Ok x) e known is = absurd cc
 known_not (Err d) e known is = absurd cc
 
-known_as : (schema : Schema) (wanted : List Wanted) (input : List ℕ) (place : ℕ) (sources : List (Option ℕ)) (all cells : List Cell) (after : Cursor) (nulls : Result (Unit {0}) FieldRefusal) → sources ≡ map (place_in (leaves (fields_of schema))) wanted
-    → value_as (fields_of schema) (datum_at schema input (start place)) ≡ Ok (all, after) → cells ≡ map (pick all) sources → is_ok (record_at schema wanted input place) ≡ true → check_nulls wanted cells ≡ nulls → record_at schema wanted input place ≡ Ok (cells, after.place)
+known_as : (schema : Schema) (wanted : List Wanted) (input : List ℕ) (place : ℕ) (sources : List (Option ℕ)) (all cells : List Cell) (after : Cursor) (nulls : Result (Unit {0}) FieldRefusal) → sources ≡ map (place_in (leaves (opens wanted) (fields_of schema))) wanted
+    → value_as (opens wanted) (fields_of schema) (datum_at schema input (start place)) ≡ Ok (all, after) → cells ≡ map (pick all) sources → is_ok (record_at schema wanted input place) ≡ true → check_nulls wanted cells ≡ nulls → record_at schema wanted input place ≡ Ok (cells, after.place)
 known_as schema wanted input place sources all cells after (Ok done) sources_are read cells_are known nulls =
     record_right schema wanted input place sources all cells after sources_are read cells_are nulls
 known_as schema wanted input place sources all cells after (Err e) sources_are read cells_are known nulls =
     absurd (known_not (record_at schema wanted input place) e known (record_null schema wanted input place sources all cells after e sources_are read cells_are nulls))
 
-pub record_known : (schema : Schema) (wanted : List Wanted) (input : List ℕ) (place : ℕ) (sources : List (Option ℕ)) (all cells : List Cell) (after : Cursor) → sources ≡ map (place_in (leaves (fields_of schema))) wanted
-    → value_as (fields_of schema) (datum_at schema input (start place)) ≡ Ok (all, after) → cells ≡ map (pick all) sources → is_ok (record_at schema wanted input place) ≡ true → record_at schema wanted input place ≡ Ok (cells, after.place)
+pub record_known : (schema : Schema) (wanted : List Wanted) (input : List ℕ) (place : ℕ) (sources : List (Option ℕ)) (all cells : List Cell) (after : Cursor) → sources ≡ map (place_in (leaves (opens wanted) (fields_of schema))) wanted
+    → value_as (opens wanted) (fields_of schema) (datum_at schema input (start place)) ≡ Ok (all, after) → cells ≡ map (pick all) sources → is_ok (record_at schema wanted input place) ≡ true → record_at schema wanted input place ≡ Ok (cells, after.place)
 record_known schema wanted input place sources all cells after sources_are read cells_are known =
     known_as schema wanted input place sources all cells after (check_nulls wanted cells) sources_are read cells_are known refl
 
 -- its value is not refused
-pub known_read : (schema : Schema) (wanted : List Wanted) (input : List ℕ) (place : ℕ) (e : DatumRefusal) → is_ok (record_at schema wanted input place) ≡ true → value_as (fields_of schema) (datum_at schema input (start place)) ≡ Err e → ⊥
+pub known_read : (schema : Schema) (wanted : List Wanted) (input : List ℕ) (place : ℕ) (e : DatumRefusal) → is_ok (record_at schema wanted input place) ≡ true → value_as (opens wanted) (fields_of schema) (datum_at schema input (start place)) ≡ Err e → ⊥
 known_read schema wanted input place e known refused = known_not (record_at schema wanted input place) (datum_refusal e) known (record_fails schema wanted input place e refused)

@@ -1,30 +1,13 @@
 -- The fields of a record whose values take bytes, apart from those that take none.
 -- Avro 1.11, "Primitive Types", "Records": null is written as zero bytes, and a record as its fields.
-use Rattle.std.specs.Prelude.{
-  ℕ,
-  suc,
-  ◌==◌,
-  ◌+◌,
-  Bool,
-  true,
-  false,
-  ◌&&◌,
-  List,
-  [],
-  ◌∷◌,
-  map,
-  Option,
-  Some,
-  None,
-  get_or,
-  if◌then◌else◌,
-}
+use Rattle.std.specs.Prelude.{ℕ, ◌==◌, ◌+◌, Bool, true, false, ◌&&◌, List, [], ◌∷◌, map, Option, Some, None}
+use Rattle.std.specs.Prelude.{get_or, if◌then◌else◌}
 use Rattle.schema_tree.specs.declared.schema.Schema.{Schema}
 use Rattle.schema_tree.specs.declared.schema.Schema.TheOpen.{Schema-F, Field-F, Null, Fixed, Rec}
 use Rattle.schema_tree.specs.declared.schema.Schema.TheFolds.{fold-Schema, fold-Field}
 use Rattle.schema_tree.specs.declared.schema.Field.{Field}
 use Rattle.datum_tree.specs.declared.datum.Datum.{Datum}
-use Rattle.fields.specs.Flat.{Leaf}
+use Rattle.fields.specs.declared.leaf.Leaf.{Leaf}
 
 -- all of these
 abbrev pub all_of : List Bool → Bool

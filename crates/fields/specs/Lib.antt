@@ -1,5 +1,6 @@
 pub mod Flat
 pub mod Kept
 pub mod Wanted
+pub mod AloneLaws
 pub mod Nulls
 pub mod Record

@@ -1,23 +1,6 @@
 -- A record, of which some fields are wanted, by a reading and by a relation.
-use Rattle.std.specs.Prelude.{
-  ◌≡◌,
-  ℕ,
-  Bool,
-  true,
-  false,
-  List,
-  [],
-  ◌∷◌,
-  length,
-  map,
-  get_or,
-  Option,
-  Some,
-  None,
-  Result,
-  Ok,
-  Err,
-}
+use Rattle.std.specs.Prelude.{◌≡◌, ℕ, Bool, true, false, List, [], ◌∷◌, length, map, get_or, Option, Some, None}
+use Rattle.std.specs.Prelude.{Result, Ok}
 use Rattle.words.specs.Reading.{◌>>=◌, map_refusal, map_value}
 use Rattle.words.specs.Parts.{Stand, Took}
 use Rattle.row_types.specs.declared.cell.Cell.{Cell}
@@ -39,9 +22,10 @@ use Rattle.fields.specs.declared.refusal.FieldRefusal.TheVariants.{MissingField,
 use Rattle.cell_reading.specs.Form.{form_of}
 use Rattle.row_types.specs.CellRef.{is_null}
 use Rattle.cell_reading.specs.Value.{cell_of, values_of}
-use Rattle.fields.specs.Flat.{Leaf, leaf_of, leaves, flat_values}
+use Rattle.fields.specs.declared.leaf.Leaf.{Leaf}
+use Rattle.fields.specs.Flat.{Opens, leaves, flat_values}
 use Rattle.fields.specs.Kept.{kept, kept_values, slots, slot_at}
-use Rattle.fields.specs.Wanted.{fields_of, source, wanted_of, check_missing, check_nulls}
+use Rattle.fields.specs.Wanted.{fields_of, opens, source, wanted_of, check_missing, check_nulls}
 use Rattle.fields.specs.Nulls.{needed_from, with_nulls}
 
 -- memory ran out, the one free answer
@@ -126,13 +110,15 @@ abbrev pub fields_as : List Leaf → Result (List Datum × Cursor) DatumRefusal 
 fields_as fields read = map_value (λ read. (read_cells fields read.0, read.1)) read
 
 -- the cells of the fields whose values take bytes, of a record's values
-abbrev pub kept_cells : List Field → Datum → List Cell
-kept_cells fields value =
-    read_cells (kept (leaves fields)) (kept_values (leaves fields) (flat_values fields (values_of value)))
+abbrev pub kept_cells : Opens → List Field → Datum → List Cell
+kept_cells opened fields value =
+    let all = leaves opened fields in
+    read_cells (kept all) (kept_values all (flat_values opened fields (values_of value)))
 
 -- what is read of a record
-abbrev pub value_as : List Field → Result (Datum × Cursor) DatumRefusal → Result (List Cell × Cursor) DatumRefusal
-value_as fields read = map_value (λ read. (kept_cells fields read.0, read.1)) read
+abbrev pub value_as : Opens → List Field → Result (Datum × Cursor) DatumRefusal
+    → Result (List Cell × Cursor) DatumRefusal
+value_as opened fields read = map_value (λ read. (kept_cells opened fields read.0, read.1)) read
 
 -- the cell at a place
 abbrev pub pick : List Cell → Option ℕ → Cell
@@ -161,11 +147,12 @@ passed_at schema wanted input place = map_value (λ read. read.1) (record_at sch
 
 -- a layout is one for its schema and for what is wanted
 pub record IsLayout (layout : Layout) : Type 0 where
-  pub leaves_are : map leaf_of layout.leaves.items ≡ kept (leaves (fields_of layout.schema.now))
-  pub forms : layout.forms.items ≡ forms_of (kept (leaves (fields_of layout.schema.now)))
-  pub sources : layout.sources.items ≡ map (place_in (leaves (fields_of layout.schema.now))) layout.wanted.now
-  pub needed : layout.needed.items ≡ needed_from layout.wanted.now layout.sources.items 0 (length layout.leaves.items)
-  pub there : check_missing (leaves (fields_of layout.schema.now)) layout.wanted.now ≡ Ok tt
+  pub leaves_are : layout.leaves.items ≡ kept (leaves (opens layout.wanted.items) (fields_of layout.schema))
+  pub forms : layout.forms.items ≡ forms_of (kept (leaves (opens layout.wanted.items) (fields_of layout.schema)))
+  pub sources : layout.sources.items
+      ≡ map (place_in (leaves (opens layout.wanted.items) (fields_of layout.schema))) layout.wanted.items
+  pub needed : layout.needed.items ≡ needed_from layout.wanted.items layout.sources.items 0 (length layout.leaves.items)
+  pub there : check_missing (leaves (opens layout.wanted.items) (fields_of layout.schema)) layout.wanted.items ≡ Ok tt
 
 -- there is room for a cell of each field that takes bytes, and for each that is wanted
 pub record IsWide (layout : Layout) (all wanted : List CellRef) : Type 0 where

@@ -1,26 +1,8 @@
 -- Which field of a record holds what is wanted: the first one with the id, if its type is an allowed one.
 -- Iceberg spec, "Column Projection".
-use Rattle.std.specs.Prelude.{
-  ℕ,
-  ◌+◌,
-  ℤ,
-  Bool,
-  true,
-  false,
-  ◌&&◌,
-  List,
-  [],
-  ◌∷◌,
-  map,
-  Option,
-  Some,
-  None,
-  Result,
-  Ok,
-  Err,
-  slice_get,
-  if◌then◌else◌,
-}
+use Rattle.std.specs.Prelude.{ℕ, ◌+◌, ℤ, Bool, true, false, ◌||◌, ◌&&◌, List, [], ◌∷◌, map, Option, Some, None}
+use Rattle.std.specs.Prelude.{Result, Ok}
+use Rattle.std.specs.Prelude.{Err, slice_get, if◌then◌else◌}
 use Rattle.std.specs.Ordering.{int_eq}
 use Rattle.row_types.specs.declared.cell.Cell.{Cell}
 use Rattle.row_types.specs.declared.cell.Cell.TheVariants as cells
@@ -33,7 +15,8 @@ use Rattle.fields.specs.declared.wanted.Wanted.{Wanted}
 use Rattle.fields.specs.declared.refusal.FieldRefusal.{FieldRefusal}
 use Rattle.fields.specs.declared.refusal.FieldRefusal.TheVariants.{MissingField}
 use Rattle.cell_reading.specs.Kind.{Level, is_allowed}
-use Rattle.fields.specs.Flat.{Leaf, leaves, flat_values}
+use Rattle.fields.specs.declared.leaf.Leaf.{Leaf}
+use Rattle.fields.specs.Flat.{leaves, flat_values}
 use Rattle.row_types.specs.CellRef.{is_null}
 use Rattle.cell_reading.specs.Value.{cell_of, values_of}
 
@@ -54,6 +37,16 @@ is_id (Some id) (Some other) = int_eq other id
 
 abbrev pub is_this : Wanted → Leaf → Bool
 is_this wanted leaf = is_id (Some wanted.id) leaf.id && is_id wanted.parent leaf.parent
+
+-- one of the wanted fields is in a record that stands in a field of the id
+abbrev pub has_inner : ℤ → List Wanted → Bool
+has_inner id [] = false
+has_inner id (w ∷ wanted) = is_id (Some id) w.parent || has_inner id wanted
+
+-- a record is opened if one of its fields is wanted; in a field without an id none is
+abbrev pub opens : List Wanted → Option ℤ → Bool
+opens wanted None = false
+opens wanted (Some id) = has_inner id wanted
 
 -- where a field stands, counted from 0, and its schema
 abbrev pub Found : Type 0
@@ -88,7 +81,8 @@ cells_with wanted fields values = map (λ (w : Wanted). cell_at values (source f
 -- the cells that are wanted of a value of a schema
 abbrev pub wanted_of : List Wanted → Schema → Datum → List Cell
 wanted_of wanted schema datum =
-    cells_with wanted (leaves (fields_of schema)) (flat_values (fields_of schema) (values_of datum))
+    cells_with wanted (leaves (opens wanted) (fields_of schema))
+    (flat_values (opens wanted) (fields_of schema) (values_of datum))
 
 -- ---- what is required
 

@@ -3,13 +3,13 @@
 ghost use Rattle.std.specs.Prelude.{◌≡◌, length, map, IfOk};
 ghost use Rattle.words.specs.Reading.{Gives};
 ghost use Rattle.fields.specs.Flat.{leaf_of, leaves};
-ghost use Rattle.fields.specs.Kept.{slot_at};
+ghost use Rattle.fields.specs.Kept.{kept, slot_at};
 ghost use Rattle.fields.specs.Nulls.{first_of, is_at, is_needed, needed_from};
-ghost use Rattle.fields.specs.Wanted.{fields_of as fields_in, source as source_in};
+ghost use Rattle.fields.specs.Wanted.{fields_of as fields_in, opens, source as source_in};
 ghost use Rattle.fields.specs.Wanted.{check_missing as missing_in};
 ghost use Rattle.fields.specs.Record.{is_memory, place_in, forms_of as forms_in, IsLayout};
 
-use crate::leaf::{Leaf, kept_of, leaves_of, slots_of};
+use crate::leaf::{Leaf, LentLeaf, kept_of, leaves_of, slots_of};
 use crate::refusal::FieldRefusal;
 use crate::wanted::{Wanted, check_missing, fields_of, source};
 use cell_reading::{Form, form_of};
@@ -18,11 +18,11 @@ use std::alloc::{AllocError, Global};
 
 /// How the records of a schema are read for what is wanted.
 #[derive(Drop)]
-pub struct Layout<'a> {
-    pub wanted: &'a [Wanted],
-    pub schema: &'a Schema,
-    /// Its fields, and those of the records in it, whose values take bytes.
-    pub leaves: Vec<Leaf<'a>>,
+pub struct Layout {
+    pub wanted: Vec<Wanted>,
+    pub schema: Schema,
+    /// Its fields, and those of the opened records in it, whose values take bytes.
+    pub leaves: Vec<Leaf>,
     /// For each of them how its cells are read.
     pub forms: Vec<Option<Form>>,
     /// For each wanted field the place of the one of them that holds it.
@@ -33,26 +33,53 @@ pub struct Layout<'a> {
 
 /// The layout of the records of the schema. The first required field that the schema has not, in
 /// the order of `wanted`, is refused.
-pub fn lay_out<'a>(
-    alloc: Global,
-    schema: &'a Schema,
-    wanted: &'a [Wanted],
-) -> Result<Layout<'a>, FieldRefusal>
+pub fn lay_out(alloc: Global, schema: Schema, wanted: Vec<Wanted>) -> Result<Layout, FieldRefusal>
     ensures missing { Gives is_memory (λ _. tt) result
-        (missing_in (leaves (fields_in schema.now)) wanted.now) }
-    ensures schema { IfOk result (λ layout. layout.schema.now ≡ schema.now) }
-    ensures wanted { IfOk result (λ layout. layout.wanted.now ≡ wanted.now) }
+        (missing_in (leaves (opens wanted.items) (fields_in schema)) wanted.items) }
+    ensures schema { IfOk result (λ layout. layout.schema ≡ schema) }
+    ensures wanted { IfOk result (λ layout. layout.wanted.items ≡ wanted.items) }
     ensures right { IfOk result IsLayout }
 {
-    let all = leaves_of(alloc, fields_of(schema))?;
+    let plan = plan_of(alloc, &schema, &wanted)?;
+    Ok(Layout {
+        wanted,
+        schema,
+        leaves: plan.leaves,
+        forms: plan.forms,
+        sources: plan.sources,
+        needed: plan.needed,
+    })
+}
+
+/// What a layout has beside its schema and what is wanted.
+#[derive(Drop)]
+struct Plan {
+    leaves: Vec<Leaf>,
+    forms: Vec<Option<Form>>,
+    sources: Vec<Option<usize>>,
+    needed: Vec<usize>,
+}
+
+/// The plan of a layout.
+fn plan_of(alloc: Global, schema: &Schema, wanted: &[Wanted]) -> Result<Plan, FieldRefusal>
+    ensures missing { Gives is_memory (λ _. tt) result
+        (missing_in (leaves (opens wanted.now) (fields_in schema.now)) wanted.now) }
+    ensures leaves { IfOk result (λ plan.
+        plan.leaves.items ≡ kept (leaves (opens wanted.now) (fields_in schema.now))) }
+    ensures forms { IfOk result (λ plan.
+        plan.forms.items ≡ forms_in (kept (leaves (opens wanted.now) (fields_in schema.now)))) }
+    ensures sources { IfOk result (λ plan.
+        plan.sources.items ≡ map (place_in (leaves (opens wanted.now) (fields_in schema.now))) wanted.now) }
+    ensures needed { IfOk result (λ plan. plan.needed.items
+        ≡ needed_from wanted.now plan.sources.items 0 (length plan.leaves.items)) }
+{
+    let all = leaves_of(alloc, fields_of(schema), wanted)?;
     check_missing(&all, wanted)?;
     let sources = sources_of(alloc, &all, wanted)?;
     let leaves = kept_of(alloc, &all)?;
     let forms = forms_of(alloc, &leaves)?;
     let needed = needed_of(alloc, wanted, &sources, leaves.len())?;
-    Ok(Layout {
-        wanted,
-        schema,
+    Ok(Plan {
         leaves,
         forms,
         sources,
@@ -63,7 +90,7 @@ pub fn lay_out<'a>(
 /// The place of each wanted field among those that take bytes.
 fn sources_of(
     alloc: Global,
-    all: &[Leaf<'_>],
+    all: &[LentLeaf<'_>],
     wanted: &[Wanted],
 ) -> Result<Vec<Option<usize>>, AllocError>
     ensures { IfOk result (λ sources.
@@ -88,12 +115,12 @@ fn slot_at(slots: &[Option<usize>], place: Option<usize>) -> Option<usize>
 }
 
 /// How the cells of each field are read.
-fn forms_of(alloc: Global, leaves: &Vec<Leaf<'_>>) -> Result<Vec<Option<Form>>, AllocError>
-    ensures { IfOk result (λ forms. forms.items ≡ forms_in (map leaf_of leaves.now.items)) }
+fn forms_of(alloc: Global, leaves: &Vec<Leaf>) -> Result<Vec<Option<Form>>, AllocError>
+    ensures { IfOk result (λ forms. forms.items ≡ forms_in leaves.now.items) }
 {
     let mut forms = Vec::new(alloc);
     for leaf in leaves {
-        forms.push(form_of(leaf.schema))?;
+        forms.push(form_of(&leaf.schema))?;
     }
     Ok(forms)
 }

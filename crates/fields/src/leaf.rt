@@ -1,54 +1,92 @@
 //! The fields of a record, and of the records in it.
 
-ghost use Rattle.std.specs.Prelude.{◌≡◌, [], ◌∷◌, ◌+◌, ◌<◌, ◌^◌, ◌++◌, map, IfOk};
-ghost use Rattle.fields.specs.Flat.{leaf_of, inner_leaf, leaves_of_field, leaves};
+ghost use Rattle.std.specs.Prelude.{◌≡◌, [], ◌∷◌, ◌+◌, ◌<◌, ◌^◌, ◌++◌, map, true, None, IfOk};
+ghost use Rattle.fields.specs.Flat.{leaf_of, inner_leaf, leaves_if, leaves_of_field, leaves};
+ghost use Rattle.fields.specs.Wanted.{opens};
 ghost use Rattle.fields.specs.Kept.{kept, slots, slot_of, behind_slot};
 
 use crate::empty::is_empty;
+use crate::wanted::{Wanted, opens};
+use lists::Copied;
 use schema_tree::{Field, Schema};
 use std::alloc::{AllocError, Global};
 
 /// A field of a record, or one of a record that stands in a field of it.
+#[derive(Drop)]
+pub struct Leaf {
+    /// The id of the field in which the record stands. None: there is none.
+    pub parent: Option<i32>,
+    pub id: Option<i32>,
+    pub schema: Schema,
+}
+
+/// A leaf that borrows its type.
 #[derive(Clone, Copy)]
-pub struct Leaf<'s> {
+pub struct LentLeaf<'s> {
     /// The id of the field in which the record stands. None: there is none.
     pub parent: Option<i32>,
     pub id: Option<i32>,
     pub schema: &'s Schema,
 }
 
-/// The fields of a record, and in their places those of the records in it.
-pub fn leaves_of<'s>(alloc: Global, fields: &'s [Field]) -> Result<Vec<Leaf<'s>>, AllocError>
-    ensures { IfOk result (λ all. map leaf_of all.items ≡ leaves fields.now) }
+/// The fields of a record, and in their places those of the records in it that have a wanted field.
+pub fn leaves_of<'s>(
+    alloc: Global,
+    fields: &'s [Field],
+    wanted: &[Wanted],
+) -> Result<Vec<LentLeaf<'s>>, AllocError>
+    ensures { IfOk result (λ all. map leaf_of all.items ≡ leaves (opens wanted.now) fields.now) }
 {
     let mut all = Vec::new(alloc);
     for field in fields {
-        push_field(&mut all, field)?;
+        push_field(&mut all, field, wanted)?;
     }
     Ok(all)
 }
 
-/// Adds the field, or the fields of the record that stands in it.
-fn push_field<'s>(all: &mut Vec<Leaf<'s>>, field: &'s Field) -> Result<(), AllocError>
+/// Adds the field, or the fields of the record that stands in it, if one of them is wanted.
+fn push_field<'s>(
+    all: &mut Vec<LentLeaf<'s>>,
+    field: &'s Field,
+    wanted: &[Wanted],
+) -> Result<(), AllocError>
     ensures { IfOk result (λ _. map leaf_of all.new.items
-        ≡ map leaf_of all.old.items ++ leaves_of_field field.now) }
+        ≡ map leaf_of all.old.items ++ leaves_of_field (opens wanted.now) field.now) }
+{
+    if opens(wanted, field.id) {
+        push_opened(all, field)
+    } else {
+        push_leaf(all, field)
+    }
+}
+
+/// Adds the fields of the record that stands in the field; the field itself, if none does.
+fn push_opened<'s>(all: &mut Vec<LentLeaf<'s>>, field: &'s Field) -> Result<(), AllocError>
+    ensures { IfOk result (λ _. map leaf_of all.new.items
+        ≡ map leaf_of all.old.items ++ leaves_if true field.now) }
 {
     match &field.schema {
         Schema::Rec { fields, .. } => push_inner(all, field.id, fields.as_slice()),
-        schema => {
-            all.push(Leaf {
-                parent: None,
-                id: field.id,
-                schema,
-            })?;
-            Ok(())
-        }
+        _ => push_leaf(all, field),
     }
+}
+
+/// Adds the field itself.
+fn push_leaf<'s>(all: &mut Vec<LentLeaf<'s>>, field: &'s Field) -> Result<(), AllocError>
+    ensures { IfOk result (λ _. map leaf_of all.new.items
+        ≡ map leaf_of all.old.items ++ inner_leaf None field.now ∷ []) }
+{
+    all.push(LentLeaf {
+        parent: None,
+        id: field.id,
+        schema: &field.schema,
+    })?;
+    Ok(())
 }
 
 /// Adds the fields of a record that stands in a field of the id.
 fn push_inner<'s>(
-    all: &mut Vec<Leaf<'s>>,
+    all: &mut Vec<LentLeaf<'s>>,
     parent: Option<i32>,
     fields: &'s [Field],
 ) -> Result<(), AllocError>
@@ -56,7 +94,7 @@ fn push_inner<'s>(
         ≡ map leaf_of all.old.items ++ map (inner_leaf parent) fields.now) }
 {
     for field in fields {
-        all.push(Leaf {
+        all.push(LentLeaf {
             parent,
             id: field.id,
             schema: &field.schema,
@@ -67,32 +105,45 @@ fn push_inner<'s>(
 
 /// The fields whose values take bytes.
 #[tactic(auto, using(crate::proofs::FirstLemmas::kept_steps))]
-pub fn kept_of<'s>(alloc: Global, all: &[Leaf<'s>]) -> Result<Vec<Leaf<'s>>, AllocError>
-    ensures { IfOk result (λ found. map leaf_of found.items ≡ kept (map leaf_of all.now)) }
+pub fn kept_of(alloc: Global, all: &[LentLeaf<'_>]) -> Result<Vec<Leaf>, AllocError>
+    ensures { IfOk result (λ found. found.items ≡ kept (map leaf_of all.now)) }
 {
     let mut found = Vec::new(alloc);
     for place in 0..all.len() {
-        push_kept(&mut found, all[place])?;
+        push_kept(alloc, &mut found, all[place])?;
     }
     Ok(found)
 }
 
 /// Adds the field, if its values take bytes.
 #[tactic(auto, unfolding(crate::specs::Kept::kept))]
-fn push_kept<'s>(found: &mut Vec<Leaf<'s>>, leaf: Leaf<'s>) -> Result<(), AllocError>
-    ensures { IfOk result (λ _. map leaf_of found.new.items
-        ≡ map leaf_of found.old.items ++ kept (leaf_of leaf.entry ∷ [])) }
+fn push_kept(alloc: Global, found: &mut Vec<Leaf>, leaf: LentLeaf<'_>) -> Result<(), AllocError>
+    ensures { IfOk result (λ _. found.new.items
+        ≡ found.old.items ++ kept (leaf_of leaf.entry ∷ [])) }
 {
     if is_empty(leaf.schema) {
         return Ok(());
     }
+    let leaf = own(alloc, leaf)?;
     found.push(leaf)?;
     Ok(())
 }
 
+/// The leaf in memory of its own.
+fn own(alloc: Global, leaf: LentLeaf<'_>) -> Result<Leaf, AllocError>
+    ensures { IfOk result (λ owned. owned ≡ leaf_of leaf.entry) }
+{
+    let schema = leaf.schema.copy(alloc)?;
+    Ok(Leaf {
+        parent: leaf.parent,
+        id: leaf.id,
+        schema,
+    })
+}
+
 /// For each field its place among those whose values take bytes, counted from 0.
 #[tactic(auto, using(crate::proofs::FirstLemmas::slots_steps))]
-pub fn slots_of(alloc: Global, all: &[Leaf<'_>]) -> Result<Vec<Option<usize>>, AllocError>
+pub fn slots_of(alloc: Global, all: &[LentLeaf<'_>]) -> Result<Vec<Option<usize>>, AllocError>
     ensures { IfOk result (λ found. found.items ≡ slots 0 (map leaf_of all.now)) }
 {
     let mut found = Vec::new(alloc);

@@ -3,9 +3,9 @@
 ghost use Rattle.std.specs.Prelude.{◌≡◌, ◌≤◌, [], ◌∷◌, length, map, IfOk};
 ghost use Rattle.words.specs.Reading.{Gives, never};
 ghost use Rattle.datum_reading.specs.Reading.{fields_at, datum_at};
-ghost use Rattle.fields.specs.Flat.{leaf_of, leaf_readers};
+ghost use Rattle.fields.specs.Flat.{leaf_readers};
 ghost use Rattle.cell_reading.specs.Form.{form_of};
-ghost use Rattle.fields.specs.Wanted.{fields_of as fields_in};
+ghost use Rattle.fields.specs.Wanted.{fields_of as fields_in, opens};
 ghost use Rattle.fields.specs.Nulls.{with_null, refused_at};
 ghost use Rattle.fields.specs.Record.{forms_of, field_as, fields_as, value_as, null_as};
 ghost use Rattle.fields.specs.Record.{first_as, passed_at, IsLayout};
@@ -20,11 +20,11 @@ use datum_reading::{Cursor, DatumRefusal, skip};
 use schema_tree::Schema;
 
 /// The place behind the record at `place`, with the refusals of `take_record`. It builds nothing.
-pub fn pass_record(layout: &Layout<'_>, input: &[u8], place: usize) -> Result<usize, FieldRefusal>
+pub fn pass_record(layout: &Layout, input: &[u8], place: usize) -> Result<usize, FieldRefusal>
     requires layout { IsLayout layout.now }
     requires start { place ≤ length input.now }
     ensures exact { Gives never (λ after. after) result
-        (passed_at layout.now.schema.now layout.now.wanted.now input.now place) }
+        (passed_at layout.now.schema layout.now.wanted.items input.now place) }
     ensures within { IfOk result (λ after. (place ≤ after) × (after ≤ length input.now)) }
 {
     let start = Cursor { place, items: 0 };
@@ -32,7 +32,7 @@ pub fn pass_record(layout: &Layout<'_>, input: &[u8], place: usize) -> Result<us
         Ok(passed) => passed,
         Err(refusal) => return Err(refusal_of(refusal)),
     };
-    refused_at(layout.wanted, first)?;
+    refused_at(&layout.wanted, first)?;
     Ok(after.place)
 }
 
@@ -47,19 +47,19 @@ fn refused_at(wanted: &[Wanted], place: usize) -> Result<(), FieldRefusal>
 }
 
 /// Passes all fields, and answers the place of the first required one that is null.
-fn pass_all(layout: &Layout<'_>, input: &[u8], at: Cursor) -> Result<(usize, Cursor), DatumRefusal>
+fn pass_all(layout: &Layout, input: &[u8], at: Cursor) -> Result<(usize, Cursor), DatumRefusal>
     requires layout { IsLayout layout.now }
     requires start { at.place ≤ length input.now }
     ensures exact { Gives never (λ passed. passed) result
-        (first_as (length layout.now.wanted.now) layout.now.needed.items
-        (value_as (fields_in layout.now.schema.now)
-        (datum_at layout.now.schema.now input.now at))) }
+        (first_as (length layout.now.wanted.items) layout.now.needed.items
+        (value_as (opens layout.now.wanted.items) (fields_in layout.now.schema)
+        (datum_at layout.now.schema input.now at))) }
     ensures within { IfOk result (λ passed.
         (at.place ≤ passed.1.place) × (passed.1.place ≤ length input.now)) }
 {
-    match layout.schema {
+    match &layout.schema {
         Schema::Rec { .. } => pass_fields(
-            layout.wanted.len(),
+            behind_all(&layout.wanted),
             &layout.leaves,
             &layout.forms,
             &layout.needed,
@@ -68,34 +68,41 @@ fn pass_all(layout: &Layout<'_>, input: &[u8], at: Cursor) -> Result<(usize, Cur
         ),
         schema => {
             let after = skip(schema, input, at)?;
-            Ok((layout.wanted.len(), after))
+            Ok((behind_all(&layout.wanted), after))
         }
     }
+}
+
+/// The place behind all wanted fields, where there is none.
+fn behind_all(wanted: &Vec<Wanted>) -> usize
+    ensures { result ≡ length wanted.now.items }
+{
+    wanted.len()
 }
 
 /// Passes each field, one behind the other. `none` is the answer if no required one is null.
 fn pass_fields(
     none: usize,
-    leaves: &[Leaf<'_>],
+    leaves: &[Leaf],
     forms: &[Option<Form>],
     needed: &[usize],
     input: &[u8],
     at: Cursor,
 ) -> Result<(usize, Cursor), DatumRefusal>
-    requires forms { forms.now ≡ forms_of (map leaf_of leaves.now) }
+    requires forms { forms.now ≡ forms_of leaves.now }
     requires width { length forms.now ≡ length leaves.now }
     requires needed { length needed.now ≡ length leaves.now }
     requires start { at.place ≤ length input.now }
     ensures exact { Gives never (λ passed. passed) result
-        (first_as none needed.now (fields_as (map leaf_of leaves.now)
-        (fields_at (leaf_readers (map leaf_of leaves.now)) [] input.now at))) }
+        (first_as none needed.now (fields_as leaves.now
+        (fields_at (leaf_readers leaves.now) [] input.now at))) }
     ensures within { IfOk result (λ passed.
         (at.place ≤ passed.1.place) × (passed.1.place ≤ length input.now)) }
 {
     let mut at = at;
     let mut first = none;
     for place in 0..leaves.len() {
-        let (null, after) = pass_field(forms[place], leaves[place].schema, input, at)?;
+        let (null, after) = pass_field(forms[place], &leaves[place].schema, input, at)?;
         first = with_null(null, needed[place], first);
         at = after;
     }

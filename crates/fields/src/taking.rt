@@ -4,11 +4,11 @@ ghost use Rattle.std.specs.Prelude.{◌≡◌, ◌≤◌, [], ◌∷◌, List, l
 ghost use Rattle.words.specs.Reading.{Gives, never};
 ghost use Rattle.schema_tree.specs.declared.schema.Schema.{Schema as ASchema};
 ghost use Rattle.row_types.specs.CellRef.{lent_cell};
-ghost use Rattle.fields.specs.Flat.{leaf_of, leaf_readers};
+ghost use Rattle.fields.specs.Flat.{leaf_readers};
 ghost use Rattle.datum_reading.specs.Reading.{fields_at, datum_at};
 ghost use Rattle.fields.specs.declared.wanted.Wanted.{Wanted as AWanted};
 ghost use Rattle.cell_reading.specs.Form.{form_of};
-ghost use Rattle.fields.specs.Wanted.{fields_of as fields_in, source, check_nulls};
+ghost use Rattle.fields.specs.Wanted.{fields_of as fields_in, opens, source, check_nulls};
 ghost use Rattle.fields.specs.Record.{datum_refusal, record_at, forms_of, field_as, fields_as};
 ghost use Rattle.fields.specs.Record.{value_as, pick, RecordAgrees, IsLayout, IsWide};
 
@@ -32,7 +32,7 @@ pub struct Cells<'a> {
 }
 
 /// Nulls for the records of a layout.
-pub fn nulls<'a>(alloc: Global, layout: &Layout<'_>) -> Result<Cells<'a>, AllocError>
+pub fn nulls<'a>(alloc: Global, layout: &Layout) -> Result<Cells<'a>, AllocError>
     ensures all { IfOk result (λ cells. length cells.all.items ≡ length layout.now.forms.items) }
     ensures wanted { IfOk result (λ cells.
         length cells.wanted.items ≡ length layout.now.sources.items) }
@@ -54,7 +54,7 @@ fn some_nulls<'a>(alloc: Global, count: usize) -> Result<Vec<CellRef<'a>>, Alloc
 /// read is refused first, then a null in a required field.
 #[tactic(auto, unfolding(crate::specs::Record::record_at))]
 pub fn take_record<'a>(
-    layout: &Layout<'_>,
+    layout: &Layout,
     input: &'a [u8],
     place: usize,
     cells: &mut Cells<'a>,
@@ -63,7 +63,7 @@ pub fn take_record<'a>(
     requires wide { IsWide layout.now cells.old.all.items cells.old.wanted.items }
     requires start { place ≤ length input.now }
     ensures exact { Gives never (λ after. (map lent_cell cells.new.wanted.items, after)) result
-        (record_at layout.now.schema.now layout.now.wanted.now input.now place) }
+        (record_at layout.now.schema layout.now.wanted.items input.now place) }
     ensures wide { IsWide layout.now cells.new.all.items cells.new.wanted.items }
     ensures within { IfOk result (λ after. (place ≤ after) × (after ≤ length input.now)) }
 {
@@ -73,14 +73,14 @@ pub fn take_record<'a>(
         Err(refusal) => return Err(refusal_of(refusal)),
     };
     arrange(&layout.sources, &cells.all, &mut cells.wanted);
-    check_nulls(layout.wanted, &cells.wanted)?;
+    check_nulls(&layout.wanted, &cells.wanted)?;
     Ok(after.place)
 }
 
 /// Takes the record at `place` into `cells`, and answers the place behind it. The record has to be
 /// right: `pass_record` or `take_record` accepted it.
 pub fn take_known_record<'a>(
-    layout: &Layout<'_>,
+    layout: &Layout,
     input: &'a [u8],
     place: usize,
     cells: &mut Cells<'a>,
@@ -88,9 +88,9 @@ pub fn take_known_record<'a>(
     requires layout { IsLayout layout.now }
     requires wide { IsWide layout.now cells.old.all.items cells.old.wanted.items }
     requires start { place ≤ length input.now }
-    requires known { is_ok (record_at layout.now.schema.now layout.now.wanted.now input.now place)
+    requires known { is_ok (record_at layout.now.schema layout.now.wanted.items input.now place)
         ≡ true }
-    ensures exact { record_at layout.now.schema.now layout.now.wanted.now input.now place
+    ensures exact { record_at layout.now.schema layout.now.wanted.items input.now place
         ≡ Ok (map lent_cell cells.new.wanted.items, result) }
     ensures wide { IsWide layout.now cells.new.all.items cells.new.wanted.items }
     ensures within { (place ≤ result) × (result ≤ length input.now) }
@@ -113,7 +113,7 @@ pub fn record_agrees()
 
 /// Takes the cells of all fields whose values take bytes.
 fn take_all<'a>(
-    layout: &Layout<'_>,
+    layout: &Layout,
     input: &'a [u8],
     at: Cursor,
     all: &mut Vec<CellRef<'a>>,
@@ -122,12 +122,12 @@ fn take_all<'a>(
     requires width { length all.old.items ≡ length layout.now.forms.items }
     requires start { at.place ≤ length input.now }
     ensures exact { Gives never (λ after. (map lent_cell all.new.items, after)) result
-        (value_as (fields_in layout.now.schema.now) (datum_at layout.now.schema.now input.now at)) }
+        (value_as (opens layout.now.wanted.items) (fields_in layout.now.schema) (datum_at layout.now.schema input.now at)) }
     ensures width { length all.new.items ≡ length all.old.items }
     ensures within { IfOk result (λ after.
         (at.place ≤ after.place) × (after.place ≤ length input.now)) }
 {
-    match layout.schema {
+    match &layout.schema {
         Schema::Rec { .. } => take_fields(&layout.leaves, &layout.forms, input, at, all),
         schema => skip(schema, input, at),
     }
@@ -135,25 +135,25 @@ fn take_all<'a>(
 
 /// Takes the cell of each field, one behind the other.
 fn take_fields<'a>(
-    leaves: &[Leaf<'_>],
+    leaves: &[Leaf],
     forms: &[Option<Form>],
     input: &'a [u8],
     at: Cursor,
     all: &mut Vec<CellRef<'a>>,
 ) -> Result<Cursor, DatumRefusal>
-    requires forms { forms.now ≡ forms_of (map leaf_of leaves.now) }
+    requires forms { forms.now ≡ forms_of leaves.now }
     requires width { length all.old.items ≡ length forms.now }
     requires start { at.place ≤ length input.now }
     ensures exact { Gives never (λ after. (map lent_cell all.new.items, after)) result
-        (fields_as (map leaf_of leaves.now)
-        (fields_at (leaf_readers (map leaf_of leaves.now)) [] input.now at)) }
+        (fields_as leaves.now
+        (fields_at (leaf_readers leaves.now) [] input.now at)) }
     ensures width { length all.new.items ≡ length all.old.items }
     ensures within { IfOk result (λ after.
         (at.place ≤ after.place) × (after.place ≤ length input.now)) }
 {
     let mut at = at;
     for place in 0..leaves.len() {
-        let (cell, after) = take_field(forms[place], leaves[place].schema, input, at)?;
+        let (cell, after) = take_field(forms[place], &leaves[place].schema, input, at)?;
         all[place] = cell;
         at = after;
     }

@@ -3,9 +3,9 @@
 ghost use Rattle.std.specs.Prelude.{◌≡◌, [], ◌∷◌, map, MatchOption};
 ghost use Rattle.std.specs.declared.option.Option.TheVariants.{None, Some};
 ghost use Rattle.fields.specs.Flat.{leaf_of};
-ghost use Rattle.fields.specs.Wanted.{fields_of, is_id, is_this, find, source, check_missing};
+ghost use Rattle.fields.specs.Wanted.{fields_of, is_id, has_inner, opens, is_this, find, source, check_missing};
 
-use crate::leaf::Leaf;
+use crate::leaf::LentLeaf;
 use crate::refusal::FieldRefusal;
 use cell_reading::is_allowed;
 use row_types::Kind;
@@ -33,8 +33,31 @@ pub fn fields_of(schema: &Schema) -> &[Field]
     }
 }
 
+/// Whether the record in a field of the id is opened: one of its fields is wanted. In a field
+/// without an id none is.
+pub fn opens(wanted: &[Wanted], id: Option<i32>) -> bool
+    ensures { result ≡ opens wanted.now id }
+{
+    match id {
+        Some(id) => has_inner(wanted, id),
+        None => false,
+    }
+}
+
+/// Whether a wanted field is in a record that stands in a field of the id.
+fn has_inner(wanted: &[Wanted], id: i32) -> bool
+    ensures { result ≡ has_inner id wanted.now }
+{
+    for w in wanted {
+        if is_id(Some(id), w.parent) {
+            return true;
+        }
+    }
+    false
+}
+
 /// The place of the first field with the ids, counted from 0, if its type is an allowed one.
-pub fn source(leaves: &[Leaf<'_>], wanted: &Wanted) -> Option<usize>
+pub fn source(leaves: &[LentLeaf<'_>], wanted: &Wanted) -> Option<usize>
     ensures { result ≡ source (map leaf_of leaves.now) wanted.now }
 {
     match find(wanted, leaves) {
@@ -45,7 +68,7 @@ pub fn source(leaves: &[Leaf<'_>], wanted: &Wanted) -> Option<usize>
 
 /// The first field with the ids: its place, counted from 0, and its type. None: no field has them.
 #[tactic(auto, using(crate::proofs::FieldLemmas::find_steps))]
-fn find<'s>(wanted: &Wanted, leaves: &[Leaf<'s>]) -> Option<(usize, &'s Schema)>
+fn find<'s>(wanted: &Wanted, leaves: &[LentLeaf<'s>]) -> Option<(usize, &'s Schema)>
     ensures { MatchOption result (find wanted.now (map leaf_of leaves.now) ≡ None)
         (λ found. find wanted.now (map leaf_of leaves.now) ≡ Some (found.0, found.1.now)) }
 {
@@ -59,7 +82,7 @@ fn find<'s>(wanted: &Wanted, leaves: &[Leaf<'s>]) -> Option<(usize, &'s Schema)>
 }
 
 /// Whether the ids are those of the field that is wanted.
-fn is_this(wanted: &Wanted, leaf: Leaf<'_>) -> bool
+fn is_this(wanted: &Wanted, leaf: LentLeaf<'_>) -> bool
     ensures { result ≡ is_this wanted.now (leaf_of leaf.entry) }
 {
     is_id(Some(wanted.id), leaf.id) && is_id(wanted.parent, leaf.parent)
@@ -78,7 +101,7 @@ fn is_id(id: Option<i32>, other: Option<i32>) -> bool
 
 /// Whether each required field is there.
 #[tactic(auto, using(crate::proofs::FieldLemmas::missing_steps))]
-pub fn check_missing(fields: &[Leaf<'_>], wanted: &[Wanted]) -> Result<(), FieldRefusal>
+pub fn check_missing(fields: &[LentLeaf<'_>], wanted: &[Wanted]) -> Result<(), FieldRefusal>
     ensures { result ≡ check_missing (map leaf_of fields.now) wanted.now }
 {
     for w in wanted {
@@ -89,7 +112,7 @@ pub fn check_missing(fields: &[Leaf<'_>], wanted: &[Wanted]) -> Result<(), Field
 
 /// Whether the field is there, if it is required.
 #[tactic(auto, unfolding(crate::specs::Wanted::check_missing))]
-fn check_one(fields: &[Leaf<'_>], wanted: &Wanted) -> Result<(), FieldRefusal>
+fn check_one(fields: &[LentLeaf<'_>], wanted: &Wanted) -> Result<(), FieldRefusal>
     ensures { result ≡ check_missing (map leaf_of fields.now) (wanted.now ∷ []) }
 {
     if wanted.required && source(fields, wanted).is_none() {

@@ -4,4 +4,4 @@ use Rattle.fields.specs.Kept.{kept}
 use Rattle.fields.proofs.leaf.kept_of.Given as goal
 
 abbrev pub invariant-loop-place : goal.invariant-loop-place
-invariant-loop-place l = map leaf_of l.found.items ++ kept (map leaf_of (drop l.place l.all)) ≡ kept (map leaf_of l.all)
+invariant-loop-place l = l.found.items ++ kept (map leaf_of (drop l.place l.all)) ≡ kept (map leaf_of l.all)

@@ -1,5 +1,5 @@
-use Rattle.std.proofs.Common.{◌≡◌, Bool, ℕ, List, [], ◌∷◌, ◌++◌, ap, sym, ◌∙◌, arith}
-use Rattle.fields.specs.declared.leaf.Leaf.{Leaf as LentLeaf}
+use Rattle.std.proofs.Common.{Bool, ℕ, [], ◌∷◌, ◌++◌, ap, sym, ◌∙◌, arith}
+use Rattle.fields.specs.declared.leaf.LentLeaf.{LentLeaf}
 use Rattle.fields.specs.Flat.{leaf_of}
 use Rattle.std.specs.declared.option.Option.{Option}
 use Rattle.fields.specs.Kept.{is_bare, slot_of, behind_slot}

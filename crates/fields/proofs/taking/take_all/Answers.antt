@@ -1,23 +1,28 @@
-use Rattle.std.proofs.Common.{◌≡◌, [], map, List, rules, refl, ap, sym, ◌∙◌}
-use Rattle.schema_tree.specs.declared.schema.Field.{Field}
+use Rattle.std.proofs.Common.{◌≡◌, [], map, rules, refl, ap}
 use Rattle.datum_reading.specs.Reading.{datum_at}
 use Rattle.row_types.specs.CellRef.{lent_cell}
-use Rattle.fields.specs.Flat.{leaf_of, leaves}
+use Rattle.fields.specs.Flat.{leaves}
 use Rattle.fields.specs.Kept.{kept}
-use Rattle.fields.specs.Wanted.{fields_of}
+use Rattle.fields.specs.Wanted.{fields_of, opens}
 use Rattle.fields.proofs.TakingLemmas.{record_as, none_passed, no_cells, no_kept}
 use Rattle.fields.proofs.taking.take_all.Goals as goal
 
 pub returns-in-Rec-clause-exact : goal.returns-in-Rec-clause-exact
 returns-in-Rec-clause-exact c =
-    let same = record_as c.args.layout.now.schema.now c.in-Rec.name c.in-Rec.fields c.args.input.now c.args.at c.in-Rec.is in
+    let layout = c.args.layout.now in
+    let same = record_as (opens layout.wanted.items) layout.schema c.in-Rec.name c.in-Rec.fields c.args.input.now c.args.at c.in-Rec.is in
     rw (same, ← c.requires.layout.leaves_are, ← c.deref.ensures.value) c.take_fields.ensures.exact
 
 pub returns-in_default : goal.returns-in_default
 returns-in_default c =
-    let none : fields_of c.args.layout.now.schema.now ≡ [] = search rules in
+    let layout = c.args.layout.now in
+    let none : fields_of layout.schema ≡ [] = search rules in
+    let opened = opens layout.wanted.items in
+    let all = leaves opened (fields_of layout.schema) in
+    let no_cell = no_cells (kept all) layout.forms.items c.args.all.now.items (no_kept all (ap (leaves opened) none)) c.requires.layout.forms c.requires.width in
     record {
-      exact = none_passed (fields_of c.args.layout.now.schema.now) (map lent_cell c.args.all.now.items) (datum_at c.args.layout.now.schema.now c.args.input.now c.args.at) c.skip.result none (no_cells (kept (leaves (fields_of c.args.layout.now.schema.now))) c.args.layout.now.forms.items c.args.all.now.items (no_kept (leaves (fields_of c.args.layout.now.schema.now)) (ap leaves none)) c.requires.layout.forms c.requires.width) c.skip.ensures.exact;
+      exact = none_passed opened (fields_of layout.schema) (map lent_cell c.args.all.now.items) (datum_at layout.schema c.args.input.now c.args.at) c.skip.result
+          none no_cell c.skip.ensures.exact;
       width = refl;
       within = c.skip.ensures.within;
     }

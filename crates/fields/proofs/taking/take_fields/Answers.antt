@@ -1,4 +1,4 @@
-use Rattle.std.proofs.Common.{◌≡◌, ◌<◌, get_or, map, length, length-append, refl, sym, ap, ◌∙◌, ◌∷◌, ◌++◌, [], arith}
+use Rattle.std.proofs.Common.{◌<◌, get_or, length, length-append, refl, sym, ap, ◌∙◌, ◌∷◌, ◌++◌, [], arith}
 use Rattle.std.proofs.lemmas.List.{length-set}
 use Rattle.std.proofs.lemmas.Result.{err_from_is_err_and}
 use Rattle.std.specs.declared.option.Option.{Option}
@@ -6,11 +6,11 @@ use Rattle.std.specs.declared.option.Option.TheVariants.{None}
 use Rattle.datum_reading.specs.Reading.{datum_at}
 use Rattle.cell_reading.specs.declared.form.Form.{Form}
 use Rattle.row_types.specs.CellRef.{lent_cell}
-use Rattle.cell_reading.specs.Form.{form_of}
-use Rattle.fields.specs.Flat.{Leaf, leaf_of}
+use Rattle.fields.specs.declared.leaf.Leaf.{Leaf}
 use Rattle.fields.specs.Record.{fields_as, read_as}
-use Rattle.fields.proofs.LeafLemmas.{leaf_there, as_many}
-use Rattle.fields.proofs.TakingLemmas.{leaf_fails, leaves_on, leaves_end, read_more, was_read, was_refused, none_read, form_at, cells_on, cells_end, as_wide}
+use Rattle.fields.proofs.LeafLemmas.{leaf_there}
+use Rattle.fields.proofs.TakingLemmas.{leaf_fails, leaves_on, leaves_end, was_read, was_refused, none_read}
+use Rattle.fields.proofs.TakingLemmas.{form_at, cells_on, cells_end, as_wide}
 use Rattle.fields.proofs.taking.take_fields.Goals as goal
 
 pub loop-place-init : goal.loop-place-init
@@ -20,31 +20,32 @@ loop-place-init c = record {
   width = refl;
   before = [];
   count = refl;
-  cells = sym (none_read (map leaf_of c.args.leaves.now));
+  cells = sym (none_read c.args.leaves.now);
   so_far = refl;
 }
 
 pub take_field-requires-clause-form : goal.take_field-requires-clause-form
 take_field-requires-clause-form c =
-    let leaf : Leaf = leaf_of (get_or c.args.leaves.now c.loop-place.place c.index-leaves-place.result) in
-    let within : c.loop-place.place < length (map leaf_of c.args.leaves.now) = omega (arith, c.loop-place-test.true, as_many c.args.leaves.now) in
-    form_at (map leaf_of c.args.leaves.now) c.args.forms.now c.loop-place.place leaf c.requires.forms within (leaf_there c.args.leaves.now c.loop-place.place c.index-leaves-place.result leaf c.loop-place-test.true)
+    let leaf : Leaf = get_or c.args.leaves.now c.loop-place.place c.index-leaves-place.result in
+    let within : c.loop-place.place < length c.args.leaves.now = omega (arith, c.loop-place-test.true) in
+    form_at c.args.leaves.now c.args.forms.now c.loop-place.place leaf c.requires.forms within (leaf_there c.args.leaves.now c.loop-place.place c.index-leaves-place.result leaf c.loop-place-test.true)
 
 pub returns-in_err-cell-clause-exact : goal.returns-in_err-cell-clause-exact
 returns-in_err-cell-clause-exact c =
     let p = err_from_is_err_and c.from_residual.result c.from_residual.ensures.1 in
-    let leaf : Leaf = leaf_of (get_or c.args.leaves.now c.loop-place.place c.index-leaves-place.result) in
-    let within : c.loop-place.place < length (map leaf_of c.args.leaves.now) = omega (arith, c.loop-place-test.true, as_many c.args.leaves.now) in
+    let leaf : Leaf = get_or c.args.leaves.now c.loop-place.place c.index-leaves-place.result in
+    let within : c.loop-place.place < length c.args.leaves.now = omega (arith, c.loop-place-test.true) in
     let refused = was_refused (get_or c.args.forms.now c.loop-place.place None) (datum_at leaf.schema c.args.input.now c.loop-place.at) c.in_err-cell.field-0.0 c.in_err-cell.ensures.exact in
-    rw (p.1, p.2) (ap (fields_as (map leaf_of c.args.leaves.now)) (leaf_fails (map leaf_of c.args.leaves.now) c.loop-place.place leaf c.loop-place.invariant.before c.args.input.now c.loop-place.at c.in_err-cell.field-0.0 _ within (leaf_there c.args.leaves.now c.loop-place.place c.index-leaves-place.result leaf c.loop-place-test.true) refused c.loop-place.invariant.so_far))
+    rw (p.1, p.2) (ap (fields_as c.args.leaves.now) (leaf_fails
+    c.args.leaves.now c.loop-place.place leaf c.loop-place.invariant.before c.args.input.now c.loop-place.at c.in_err-cell.field-0.0 _ within (leaf_there c.args.leaves.now c.loop-place.place c.index-leaves-place.result leaf c.loop-place-test.true) refused c.loop-place.invariant.so_far))
 
 pub loop-place-preserved : goal.loop-place-preserved
 loop-place-preserved c =
-    let leaf : Leaf = leaf_of (get_or c.args.leaves.now c.loop-place.place c.index-leaves-place.result) in
-    let within : c.loop-place.place < length (map leaf_of c.args.leaves.now) = omega (arith, c.loop-place-test.true, as_many c.args.leaves.now) in
+    let leaf : Leaf = get_or c.args.leaves.now c.loop-place.place c.index-leaves-place.result in
+    let within : c.loop-place.place < length c.args.leaves.now = omega (arith, c.loop-place-test.true) in
     let there = leaf_there c.args.leaves.now c.loop-place.place c.index-leaves-place.result leaf c.loop-place-test.true in
-    let width = as_wide (map leaf_of c.args.leaves.now) c.args.forms.now c.args.all.now.items c.loop-place.all.items c.requires.forms c.requires.width c.loop-place.invariant.width in
-    let form_is = form_at (map leaf_of c.args.leaves.now) c.args.forms.now c.loop-place.place leaf c.requires.forms within there in
+    let width = as_wide c.args.leaves.now c.args.forms.now c.args.all.now.items c.loop-place.all.items c.requires.forms c.requires.width c.loop-place.invariant.width in
+    let form_is = form_at c.args.leaves.now c.args.forms.now c.loop-place.place leaf c.requires.forms within there in
     let was = was_read (get_or c.args.forms.now c.loop-place.place None) (datum_at leaf.schema c.args.input.now c.loop-place.at) (lent_cell c.in_ok-cell.cell) c.in_ok-cell.after c.in_ok-cell.ensures.exact in
     record {
       start = omega (arith, c.in_ok-cell.ensures.within);
@@ -52,12 +53,13 @@ loop-place-preserved c =
       width = length-set _ _ _ ∙ c.loop-place.invariant.width;
       before = c.loop-place.invariant.before ++ was.value ∷ [];
       count = omega (arith, c.loop-place.invariant.count, length-append c.loop-place.invariant.before (was.value ∷ []));
-      cells = cells_on (map leaf_of c.args.leaves.now) c.loop-place.all.items c.loop-place.place c.loop-place.invariant.before was.value leaf c.in_ok-cell.cell (omega (arith, width, within)) c.loop-place.invariant.count within there (was.cell_is ∙ ap (λ (f : Option Form). read_as f was.value) form_is) c.loop-place.invariant.cells;
-      so_far = leaves_on (map leaf_of c.args.leaves.now) c.loop-place.place leaf c.loop-place.invariant.before c.args.input.now c.loop-place.at was.value c.in_ok-cell.after _ within there was.is c.loop-place.invariant.so_far;
+      cells = cells_on c.args.leaves.now c.loop-place.all.items c.loop-place.place c.loop-place.invariant.before was.value leaf
+          c.in_ok-cell.cell (omega (arith, width, within)) c.loop-place.invariant.count within there (was.cell_is ∙ ap (λ (f : Option Form). read_as f was.value) form_is) c.loop-place.invariant.cells;
+      so_far = leaves_on c.args.leaves.now c.loop-place.place leaf c.loop-place.invariant.before c.args.input.now c.loop-place.at was.value c.in_ok-cell.after _ within there was.is c.loop-place.invariant.so_far;
     }
 
 pub returns-clause-exact : goal.returns-clause-exact
 returns-clause-exact c =
-    let width = as_wide (map leaf_of c.args.leaves.now) c.args.forms.now c.args.all.now.items c.loop-place.all.items c.requires.forms c.requires.width c.loop-place.invariant.width in
-    let read = leaves_end (map leaf_of c.args.leaves.now) c.loop-place.place c.loop-place.invariant.before c.args.input.now c.loop-place.at _ (omega (arith, c.loop-place-test.false, as_many c.args.leaves.now)) c.loop-place.invariant.so_far in
-    ap (fields_as (map leaf_of c.args.leaves.now)) read ∙ cells_end (map leaf_of c.args.leaves.now) c.loop-place.all.items c.loop-place.place c.loop-place.invariant.before c.loop-place.at (omega (arith, width, c.loop-place-test.false, as_many c.args.leaves.now)) c.loop-place.invariant.cells
+    let width = as_wide c.args.leaves.now c.args.forms.now c.args.all.now.items c.loop-place.all.items c.requires.forms c.requires.width c.loop-place.invariant.width in
+    let read = leaves_end c.args.leaves.now c.loop-place.place c.loop-place.invariant.before c.args.input.now c.loop-place.at _ (omega (arith, c.loop-place-test.false)) c.loop-place.invariant.so_far in
+    ap (fields_as c.args.leaves.now) read ∙ cells_end c.args.leaves.now c.loop-place.all.items c.loop-place.place c.loop-place.invariant.before c.loop-place.at (omega (arith, width, c.loop-place-test.false)) c.loop-place.invariant.cells

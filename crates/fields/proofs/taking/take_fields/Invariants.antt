@@ -1,6 +1,6 @@
 use Rattle.std.proofs.Common.{◌≡◌, ◌≤◌, List, [], length, take, drop, map}
 use Rattle.datum_tree.specs.declared.datum.Datum.{Datum}
-use Rattle.fields.specs.Flat.{leaf_of, leaf_readers}
+use Rattle.fields.specs.Flat.{leaf_readers}
 use Rattle.datum_reading.specs.Reading.{fields_at}
 use Rattle.row_types.specs.CellRef.{lent_cell}
 use Rattle.fields.specs.Record.{read_cells}
@@ -13,6 +13,6 @@ invariant-loop-place l = record {
   width : length l.all.items ≡ length l.fn.all.items;
   before : List Datum;
   count : length before ≡ l.place;
-  cells : map lent_cell (take l.place l.all.items) ≡ read_cells (map leaf_of l.leaves) before;
-  so_far : fields_at (leaf_readers (drop l.place (map leaf_of l.leaves))) before l.input l.at ≡ fields_at (leaf_readers (map leaf_of l.leaves)) [] l.input l.fn.at;
+  cells : map lent_cell (take l.place l.all.items) ≡ read_cells l.leaves before;
+  so_far : fields_at (leaf_readers (drop l.place l.leaves)) before l.input l.at ≡ fields_at (leaf_readers l.leaves) [] l.input l.fn.at;
 }

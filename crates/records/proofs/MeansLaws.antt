@@ -1,0 +1,27 @@
+-- A value that is made of a record's cells, by the relation: what is read means so, and what means so is read.
+use Rattle.std.proofs.Common.{ℕ, List, Ok, refl, sym, ap, subst, ◌∙◌}
+use Rattle.words.specs.Reading.{map_refusal, map_value}
+use Rattle.words.specs.Steps.{map_ok, value_ok}
+use Rattle.words.specs.Parts.{Took}
+use Rattle.row_types.specs.declared.cell.Cell.{Cell}
+use Rattle.schema_tree.specs.declared.schema.Schema.{Schema}
+use Rattle.objects.specs.Object.{Agrees}
+use Rattle.fields.specs.declared.wanted.Wanted.{Wanted}
+use Rattle.fields.specs.Record.{record_at, RecordAgrees}
+use Rattle.records.specs.declared.refusal.RecordRefusal.TheVariants.{Field}
+use Rattle.records.specs.Record.{Means, value_at}
+
+-- a value that is made of cells
+pub means : {V : Type 0} (made : List Cell → V) (schema : Schema) (wanted : List Wanted) → RecordAgrees schema wanted
+    → Agrees (value_at made schema wanted) (Means made schema wanted)
+means made schema wanted agrees = record {
+  sound = λ input place taken is.
+      let named = map_ok Field (map_value (λ read. (made read.0, read.1)) (record_at schema wanted input place)) taken is in
+      let inner = value_ok (λ read. (made read.0, read.1)) (record_at schema wanted input place) taken named in
+      let took = agrees.sound input place inner.0 inner.1 in
+      subst (λ (t : _ × ℕ). Took input place t.1 (Means made schema wanted t.0)) inner.2
+      (record { bytes = took.bytes; stand = took.stand; such = record { cells = inner.0.0; value_is = refl; stored = took.such } });
+  complete = λ input place after value bytes spelled stand.
+      let read = agrees.complete input place after spelled.cells bytes spelled.stored stand in
+      ap (λ r. map_refusal Field (map_value (λ read. (made read.0, read.1)) r)) read ∙ ap (λ v. Ok (v, after)) (sym spelled.value_is);
+}
