@@ -16,6 +16,12 @@ IsStep old (Ok true) object new = old ≡ before object new
 IsStep old (Ok false) object new = (old ≡ ended) × (new ≡ ended)
 IsStep old (Err e) object new = (old ≡ refused e) × (new ≡ refused e)
 
+-- if there is no next object
+abbrev pub IfEnd : {E : Type 0} → Result Bool E → Type 0 → Type 0
+IfEnd (Ok true) fact = Unit {0}
+IfEnd (Ok false) fact = fact
+IfEnd (Err e) fact = Unit {0}
+
 -- the first object is left out
 pub record IsWithoutFirst {V E : Type 0} (old new : Stream V E) : Type 0 where
   pub first : V

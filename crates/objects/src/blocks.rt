@@ -1,11 +1,11 @@
 //! The objects of all blocks, shown one after the other.
 
-ghost use Rattle.std.specs.Prelude.{◌≡◌, ◌+◌, ◌<◌, ◌^◌, [], ◌∷◌, length, None};
+ghost use Rattle.std.specs.Prelude.{◌≡◌, ◌+◌, ◌<◌, ◌^◌, [], ◌∷◌, length, None, OnOk};
 ghost use Rattle.std.specs.Bool.{OnTrue, OnFalse};
 ghost use Rattle.words.specs.Reading.{Gives, never, outcome};
 ghost use Rattle.objects.specs.Stream.{ended, all};
 ghost use Rattle.objects.specs.Blocks.{told as objects_told, blocks_from};
-ghost use Rattle.objects.specs.Left.{left_of, IsStep, IsPass, IsBegun, IsWithin, IsReady};
+ghost use Rattle.objects.specs.Left.{left_of, IsStep, IfEnd, IsPass, IsBegun, IsWithin, IsReady};
 
 use crate::object::Object;
 use avro_container::Walk;
@@ -43,6 +43,7 @@ impl<'a, R: Object<'a>> Objects<'a, R> {
         ensures ready { IsReady R.right R.fits result.reader result.rest result.slot }
         ensures left { left_of (R.at result.reader) R.rest result.rest
             ≡ blocks_from (R.at reader) R.rest 1 walk.entry.left }
+        ensures slot { result.slot ≡ slot }
         ensures reader { result.reader ≡ reader }
         ensures whole { result.rest.walk.whole ≡ walk.entry.whole }
     {
@@ -66,6 +67,7 @@ impl<'a, R: Object<'a>> Objects<'a, R> {
         ensures ready { IsReady R.right R.fits self.new.reader self.new.rest self.new.slot }
         ensures step { IsStep (left_of (R.at self.old.reader) R.rest self.old.rest) result
             (R.held self.new.slot) (left_of (R.at self.old.reader) R.rest self.new.rest) }
+        ensures end { IfEnd result (self.new.slot ≡ self.old.slot) }
         ensures reader { self.new.reader ≡ self.old.reader }
         ensures whole { self.new.rest.walk.whole ≡ self.old.rest.walk.whole }
     {
@@ -93,6 +95,7 @@ impl<'a, R: Object<'a>> Objects<'a, R> {
         ensures end { OnFalse result
             (((left_of (R.at self.old.reader) R.rest self.old.rest).objects ≡ [])
             × ((left_of (R.at self.new.reader) R.rest self.new.rest).objects ≡ [])) }
+        ensures slot { OnFalse result (self.new.slot ≡ self.old.slot) }
         ensures reader { self.new.reader ≡ self.old.reader }
         ensures whole { self.new.rest.walk.whole ≡ self.old.rest.walk.whole }
     {
@@ -113,6 +116,8 @@ impl<'a, R: Object<'a>> Objects<'a, R> {
         ensures ready { IsReady R.right R.fits self.new.reader self.new.rest self.new.slot }
         ensures exact { Gives never (λ done. done) result
             (outcome (all (left_of (R.at self.old.reader) R.rest self.old.rest))) }
+        ensures left { OnOk result (left_of (R.at self.old.reader) R.rest self.new.rest ≡ ended) }
+        ensures slot { self.new.slot ≡ self.old.slot }
         ensures reader { self.new.reader ≡ self.old.reader }
         ensures whole { self.new.rest.walk.whole ≡ self.old.rest.walk.whole }
     {
@@ -127,6 +132,7 @@ impl<'a, R: Object<'a>> Objects<'a, R> {
         ensures ready { IsReady R.right R.fits self.new.reader self.new.rest self.new.slot }
         ensures left { left_of (R.at self.old.reader) R.rest self.new.rest
             ≡ blocks_from (R.at self.old.reader) R.rest 1 self.old.rest.walk.whole.blocks }
+        ensures slot { self.new.slot ≡ self.old.slot }
         ensures reader { self.new.reader ≡ self.old.reader }
         ensures whole { self.new.rest.walk.whole ≡ self.old.rest.walk.whole }
     {
@@ -177,8 +183,8 @@ fn go_on<'a, R: Object<'a>>(reader: &R, rest: &mut Rest<'a>) -> Result<bool, R::
     Ok(true)
 }
 
-/// How many objects a block's count says that it has.
-fn told(count: i64) -> u64
+/// How many objects a block's count says that it has. A negative count says that it has none.
+pub fn told(count: i64) -> u64
     ensures value { result ≡ objects_told count }
     ensures fits { result < 2 ^ 63 }
 {

@@ -1,8 +1,8 @@
 //! All objects of a container, in memory of their own.
 
-ghost use Rattle.std.specs.Prelude.{◌≡◌, ◌<◌, ◌^◌, List, length, Ok, IfOk};
+ghost use Rattle.std.specs.Prelude.{◌≡◌, ◌<◌, ◌^◌, List, length, Ok, IfOk, OnOk};
 ghost use Rattle.words.specs.Reading.{Gives};
-ghost use Rattle.objects.specs.Stream.{all};
+ghost use Rattle.objects.specs.Stream.{ended, all};
 ghost use Rattle.objects.specs.Blocks.{objects_of};
 ghost use Rattle.objects.specs.Left.{left_of, IsReady};
 ghost use Rattle.objects.specs.Held.{Hold};
@@ -58,8 +58,12 @@ pub fn collect<'a, R: Owning<'a>>(
     objects: &mut Objects<'a, R>,
 ) -> Result<OwnList<R::Value>, R::Refusal>
     requires ready { IsReady R.right R.fits objects.old.reader objects.old.rest objects.old.slot }
+    ensures ready { IsReady R.right R.fits objects.new.reader objects.new.rest objects.new.slot }
     ensures exact { Gives R.is_memory (λ values. values) result
         (all (left_of (R.at objects.old.reader) R.rest objects.old.rest)) }
+    ensures left { OnOk result (left_of (R.at objects.old.reader) R.rest objects.new.rest ≡ ended) }
+    ensures reader { objects.new.reader ≡ objects.old.reader }
+    ensures whole { objects.new.rest.walk.whole ≡ objects.old.rest.walk.whole }
 {
     let mut list = OwnList::new(alloc);
     while objects.advance()? {

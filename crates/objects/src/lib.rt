@@ -11,6 +11,6 @@ mod blocks;
 mod collected;
 mod object;
 
-pub use blocks::Objects;
+pub use blocks::{Objects, told};
 pub use collected::{collect, read_all};
 pub use object::{Object, Owning};
