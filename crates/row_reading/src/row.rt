@@ -197,7 +197,7 @@ fn check_nulls(columns: &[Column], cells: &[CellRef<'_>]) -> Result<(), RowRefus
 }
 
 /// Whether the cell is no null where the column is required.
-#[tactic(auto, unfolding(crate::specs::Row::check_nulls))]
+#[tactic(auto, unfolding(stored_rows::specs::Row::check_nulls))]
 fn check_null(column: &Column, cell: CellRef<'_>) -> Result<(), RowRefusal>
     ensures { result ≡ check_nulls (column.now ∷ []) (lent_cell cell.entry ∷ []) }
 {
