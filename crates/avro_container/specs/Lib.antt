@@ -1,4 +1,5 @@
 pub mod Refusal
+pub mod RefusalText
 pub mod Header
 pub mod Block
 pub mod Container

@@ -2,8 +2,11 @@
 
 ghost use Rattle.std.specs.Prelude.{◌≡◌};
 ghost use Rattle.avro_container.specs.declared.refusal.ContainerRefusal.TheVariants.{Memory};
+ghost use Rattle.avro_container.specs.RefusalText.{refusal_text};
+ghost use Rattle.refusal_text.specs.Told.{told_text, spaced};
 
 use avro_wire::{Bytes, WireRefusal};
+use refusal_text::Told;
 use std::alloc::{AllocError, AllocFailed};
 
 /// Why bytes are no container: the first cause in the order of the bytes. Places count bytes from 0,
@@ -29,6 +32,24 @@ pub enum ContainerRefusal {
     Sync { block: u64 },
     /// There was no memory.
     Memory,
+}
+
+impl ContainerRefusal {
+    /// The text of the refusal.
+    pub fn told(&self) -> Told<'_>
+        ensures { told_text result ≡ spaced (refusal_text self.now) }
+    {
+        match self {
+            ContainerRefusal::Limit { found } => Told::number("Object", *found),
+            ContainerRefusal::Magic => Told::word("Magic"),
+            ContainerRefusal::Header { place } => Told::number("Header", *place),
+            ContainerRefusal::Codec { name } => Told::hex("Codec", name),
+            ContainerRefusal::Short { place } => Told::number("Short", *place),
+            ContainerRefusal::Form { block } => Told::number("Form", *block),
+            ContainerRefusal::Sync { block } => Told::number("Sync", *block),
+            ContainerRefusal::Memory => Told::nothing(),
+        }
+    }
 }
 
 impl From<AllocError> for ContainerRefusal {

@@ -1,4 +1,5 @@
 pub mod Refusal
+pub mod RefusalText
 pub mod Member
 pub mod Defined
 pub mod SeenNames

@@ -6,9 +6,12 @@ ghost use Rattle.std.specs.Fmt.{decimal};
 ghost use Rattle.avro_schema.specs.declared.refusal.SchemaRefusal.TheVariants.{Form, Memory};
 ghost use Rattle.avro_schema.specs.Refusal as spec;
 ghost use Rattle.avro_schema.specs.Refusal.{is_memory};
+ghost use Rattle.avro_schema.specs.RefusalText.{refusal_text};
+ghost use Rattle.refusal_text.specs.Told.{told_text, spaced};
 ghost use Rattle.words.specs.Reading.{Gives};
 
 use avro_wire::Text;
+use refusal_text::Told;
 use schema_tree::Name;
 use std::alloc::{AllocError, AllocFailed, Global};
 
@@ -27,6 +30,21 @@ pub enum SchemaRefusal {
     Nesting,
     /// There was no memory.
     Memory,
+}
+
+impl SchemaRefusal {
+    /// The text of the refusal.
+    pub fn told(&self) -> Told<'_>
+        ensures { told_text result ≡ spaced (refusal_text self.now) }
+    {
+        match self {
+            SchemaRefusal::NotJson => Told::word("NotJson"),
+            SchemaRefusal::Form { path } => Told::quoted("Form", path),
+            SchemaRefusal::Unknown { name } => Told::quoted("Unknown", name),
+            SchemaRefusal::Nesting => Told::word("Nesting"),
+            SchemaRefusal::Memory => Told::nothing(),
+        }
+    }
 }
 
 impl From<AllocError> for SchemaRefusal {

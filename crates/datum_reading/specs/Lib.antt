@@ -1,4 +1,5 @@
 pub mod Refusal
+pub mod RefusalText
 pub mod Reading
 pub mod Readers
 pub mod Block

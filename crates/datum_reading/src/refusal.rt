@@ -2,7 +2,10 @@
 
 ghost use Rattle.std.specs.Prelude.{◌≡◌};
 ghost use Rattle.datum_reading.specs.declared.refusal.DatumRefusal.TheVariants.{Memory};
+ghost use Rattle.datum_reading.specs.RefusalText.{refusal_text};
+ghost use Rattle.refusal_text.specs.Told.{told_text, spaced};
 
+use refusal_text::Told;
 use std::alloc::{AllocError, AllocFailed};
 use std::error::Error;
 use std::fmt;
@@ -29,6 +32,24 @@ pub enum DatumRefusal {
     Items { place: u64 },
     /// There was no memory.
     Memory,
+}
+
+impl DatumRefusal {
+    /// The text of the refusal.
+    pub fn told(self) -> Told<'static>
+        ensures { told_text result ≡ spaced (refusal_text self) }
+    {
+        match self {
+            DatumRefusal::Short { place } => Told::number("Short", place),
+            DatumRefusal::TooLong { place } => Told::number("TooLong", place),
+            DatumRefusal::Flag { place } => Told::number("Flag", place),
+            DatumRefusal::Branch { place } => Told::number("Branch", place),
+            DatumRefusal::Utf8 { place } => Told::number("Utf8", place),
+            DatumRefusal::Size { place } => Told::number("Size", place),
+            DatumRefusal::Items { place } => Told::number("Items", place),
+            DatumRefusal::Memory => Told::nothing(),
+        }
+    }
 }
 
 /// The words before and behind the place, and the place. `None`: the refusal has no place.

@@ -1,5 +1,6 @@
 //! Which limit is broken.
 
+ghost use Rattle.std.specs.Prelude.{◌≡◌};
 ghost use Rattle.std.specs.declared.option.Option.TheVariants.{Some};
 ghost use Rattle.limits.specs.Which.{name_of};
 
@@ -26,11 +27,12 @@ pub enum Which {
     LiveRows,
 }
 
-impl fmt::Display for Which {
-    ghost output = { λ which. Some (name_of which) };
-
-    fn fmt<W: fmt::Write>(&self, f: &mut fmt::Formatter<W>) -> fmt::Result {
-        f.write_str(match self {
+impl Which {
+    /// The variant's name.
+    pub fn name(self) -> &'static str
+        ensures { result.now ≡ name_of self }
+    {
+        match self {
             Which::Input => "Input",
             Which::Object => "Object",
             Which::Path => "Path",
@@ -39,6 +41,14 @@ impl fmt::Display for Which {
             Which::Files => "Files",
             Which::FileRows => "FileRows",
             Which::LiveRows => "LiveRows",
-        })
+        }
+    }
+}
+
+impl fmt::Display for Which {
+    ghost output = { λ which. Some (name_of which) };
+
+    fn fmt<W: fmt::Write>(&self, f: &mut fmt::Formatter<W>) -> fmt::Result {
+        f.write_str(self.name())
     }
 }

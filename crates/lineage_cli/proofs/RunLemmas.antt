@@ -7,7 +7,8 @@ use Rattle.std.specs.Io.KnownBytes.{Keeps}
 use Rattle.lineage_cli.specs.declared.command.Command.{Command}
 use Rattle.lineage_cli.specs.declared.ending.Ending.{Ending}
 use Rattle.lineage_cli.specs.declared.ending.Ending.TheVariants.{Usage, InputFault, InputLimit, OutFault, Memory}
-use Rattle.lineage_cli.specs.Class.{Class}
+use Rattle.lineage_cli.specs.declared.class.Class.{Class}
+use Rattle.lineage_cli.specs.declared.class.Class.TheVariants as classes
 use Rattle.lineage_cli.specs.Ending.{class_of}
 use Rattle.lineage_cli.specs.Input.{most_input}
 use Rattle.lineage_cli.specs.Run.{answer_of, answer_to, Stream, is_memory, IsOutcome, IsRefused, WhyNotRead, IsReason}
@@ -27,8 +28,8 @@ answer_within command bytes few =
 
 -- a command's answer may be an ending of this class
 abbrev pub may_answer : Class → Bool
-may_answer (Class.Refused refusal) = true
-may_answer Class.Memory = true
+may_answer (classes.Refused refusal) = true
+may_answer classes.Memory = true
 may_answer _ = false
 
 -- an ending that a command's answer may be

@@ -1,35 +1,39 @@
--- Classes of endings. The class decides the status of a run, and what its contract says of the input and the output.
-use Rattle.std.specs.Prelude.{ℕ}
-
--- what a refusal is about: the text of the input, a file of a table, a rule of histories, memory, or a limit
-pub data RefusalClass : Type 0 where
-  Input : RefusalClass
-  Table : RefusalClass
-  Rule : RefusalClass
-  Memory : RefusalClass
-  Limit : RefusalClass
-
--- how a run ended: the bytes of the input are refused, the words are no command, the input or the output failed,
--- or memory ran out
-pub data Class : Type 0 where
-  Refused : RefusalClass → Class
-  Usage : Class
-  InputFault : Class
-  OutFault : Class
-  Memory : Class
+-- Classes of endings. The class decides the status of a run, the first word of its line, and what its contract says
+-- of the input and the output.
+use Rattle.std.specs.Prelude.{ℕ, List, codes}
+use Rattle.lineage_cli.specs.declared.class.RefusalClass.{RefusalClass}
+use Rattle.lineage_cli.specs.declared.class.RefusalClass.TheVariants.{Input, Table, Rule, Memory, Limit}
+use Rattle.lineage_cli.specs.declared.class.Class.{Class}
+use Rattle.lineage_cli.specs.declared.class.Class.TheVariants as classes
 
 -- the status of a refusal
 abbrev pub refusal_status : RefusalClass → ℕ
-refusal_status RefusalClass.Input = 2
-refusal_status RefusalClass.Table = 3
-refusal_status RefusalClass.Rule = 4
-refusal_status RefusalClass.Memory = 6
-refusal_status RefusalClass.Limit = 7
+refusal_status Input = 2
+refusal_status Table = 3
+refusal_status Rule = 4
+refusal_status Memory = 6
+refusal_status Limit = 7
 
 -- the status of an ending
 abbrev pub class_status : Class → ℕ
-class_status (Class.Refused refusal) = refusal_status refusal
-class_status Class.Usage = 1
-class_status Class.InputFault = 5
-class_status Class.OutFault = 5
-class_status Class.Memory = 6
+class_status (classes.Refused refusal) = refusal_status refusal
+class_status classes.Usage = 1
+class_status classes.InputFault = 5
+class_status classes.OutFault = 5
+class_status classes.Memory = 6
+
+-- the word of a refusal
+abbrev pub refusal_word : RefusalClass → List ℕ
+refusal_word Input = codes "input"
+refusal_word Table = codes "table"
+refusal_word Rule = codes "refused"
+refusal_word Memory = codes "memory"
+refusal_word Limit = codes "limit"
+
+-- the word of an ending
+abbrev pub class_word : Class → List ℕ
+class_word (classes.Refused refusal) = refusal_word refusal
+class_word classes.Usage = codes "usage"
+class_word classes.InputFault = codes "fault"
+class_word classes.OutFault = codes "fault"
+class_word classes.Memory = codes "memory"

@@ -6,5 +6,4 @@ pub mod Text
 pub mod Class
 pub mod Ending
 pub mod Audit
-pub mod Line
 pub mod Run

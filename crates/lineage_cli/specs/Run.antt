@@ -6,13 +6,14 @@ use Rattle.words.specs.Reading.{◌>>=◌, map_refusal, value_or}
 use Rattle.lt_port.specs.Faults.{Rose}
 use Rattle.lt_port.specs.declared.failure.PortError.{PortError}
 use Rattle.lt_port.specs.declared.failure.PortError.TheVariants.{Failed}
+use Rattle.lineage_cli.specs.declared.class.Class.{Class}
+use Rattle.lineage_cli.specs.declared.class.Class.TheVariants as classes
 use Rattle.lineage_cli.specs.declared.command.Command.{Command}
 use Rattle.lineage_cli.specs.declared.command.Command.TheVariants.{Rows, Audit}
 use Rattle.lineage_cli.specs.declared.ending.Ending.{Ending}
 use Rattle.lineage_cli.specs.declared.ending.Ending.TheVariants.{Usage, InputFault, InputLimit, Table, Memory}
 use Rattle.lineage_cli.specs.declared.input.InputRefusal.TheVariants as refusals
 use Rattle.lineage_cli.specs.Command.{Asks}
-use Rattle.lineage_cli.specs.Class.{Class}
 use Rattle.lineage_cli.specs.Ending.{class_of, status_of, line_of}
 use Rattle.lineage_cli.specs.Input.{most_input, StopsBy}
 use Rattle.lineage_cli.specs.Output.{AppendsFront, Puts}
@@ -59,11 +60,11 @@ pub record IsRefused (answer : Result (List ℕ) Ending) (ending : Ending) (out 
 -- why a run whose input was read ended so, by the class of its ending;
 -- if memory ran out, it ended anywhere, with a front of the answer
 abbrev pub IsOutcomeOf : Class → Result (List ℕ) Ending → Ending → Stream → Stream → Type 0
-IsOutcomeOf (Class.Refused refusal) answer ending out outs = IsRefused answer ending out outs
-IsOutcomeOf Class.OutFault answer ending out outs = IsCut answer out outs
-IsOutcomeOf Class.Memory answer ending out outs = AppendsFront out.bytes outs.bytes (value_or [] answer)
-IsOutcomeOf Class.Usage answer ending out outs = ⊥
-IsOutcomeOf Class.InputFault answer ending out outs = ⊥
+IsOutcomeOf (classes.Refused refusal) answer ending out outs = IsRefused answer ending out outs
+IsOutcomeOf classes.OutFault answer ending out outs = IsCut answer out outs
+IsOutcomeOf classes.Memory answer ending out outs = AppendsFront out.bytes outs.bytes (value_or [] answer)
+IsOutcomeOf classes.Usage answer ending out outs = ⊥
+IsOutcomeOf classes.InputFault answer ending out outs = ⊥
 
 -- why a run whose input was read ended so, or why it answered
 abbrev pub IsOutcome : Result (List ℕ) Ending → Stream → Stream → Result (Unit {0}) Ending → Type 0
@@ -97,14 +98,14 @@ pub record IsRead (command : Command) (input inputs out outs : Stream) (ended : 
 -- why the run of a command ended so, by the class of its ending: by what was read,
 -- unless the input failed or memory ran out before; then nothing is printed
 abbrev pub IsReasonOf : Class → Command → Ending → Stream → Stream → Stream → Stream → Type 0
-IsReasonOf (Class.Refused refusal) command ending input inputs out outs =
+IsReasonOf (classes.Refused refusal) command ending input inputs out outs =
     IsRead command input inputs out outs (Err ending)
-IsReasonOf Class.OutFault command ending input inputs out outs = IsRead command input inputs out outs (Err ending)
-IsReasonOf Class.InputFault command ending input inputs out outs =
+IsReasonOf classes.OutFault command ending input inputs out outs = IsRead command input inputs out outs (Err ending)
+IsReasonOf classes.InputFault command ending input inputs out outs =
     WhyNotRead (most_input command) ending input inputs × Keeps out.bytes outs.bytes
-IsReasonOf Class.Memory command ending input inputs out outs =
+IsReasonOf classes.Memory command ending input inputs out outs =
     IsRead command input inputs out outs (Err ending) ⊎ Keeps out.bytes outs.bytes
-IsReasonOf Class.Usage command ending input inputs out outs = ⊥
+IsReasonOf classes.Usage command ending input inputs out outs = ⊥
 
 -- why the run of a command ended so, or why it answered
 abbrev pub IsReason : Command → Stream → Stream → Stream → Stream → Result (Unit {0}) Ending → Type 0

@@ -8,13 +8,16 @@
 //! | `rows` | answering with the rows of a data file |
 //! | `audit` | answering whether the history of a report is legal |
 //! | `printing` | printing rows, one line each |
-//! | `ending` | the status and the line of a run that doesn't answer |
+//! | `ending`, `class` | the status and the line of a run that doesn't answer |
+//! | `line` | writing the text of a refusal to a sink |
 #![tactic(auto)]
 
 mod audit;
+mod class;
 mod command;
 mod ending;
 mod input;
+mod line;
 mod output;
 mod printing;
 mod rows;

@@ -1,5 +1,6 @@
 //! The rules of a history.
 
+ghost use Rattle.std.specs.Prelude.{◌≡◌};
 ghost use Rattle.std.specs.declared.option.Option.TheVariants.{Some};
 ghost use Rattle.lineage_model.specs.RuleName.{name_of};
 
@@ -29,11 +30,12 @@ pub enum Rule {
     Asked,
 }
 
-impl fmt::Display for Rule {
-    ghost output = { λ rule. Some (name_of rule) };
-
-    fn fmt<W: fmt::Write>(&self, f: &mut fmt::Formatter<W>) -> fmt::Result {
-        f.write_str(match self {
+impl Rule {
+    /// The variant's name.
+    pub fn name(self) -> &'static str
+        ensures { result.now ≡ name_of self }
+    {
+        match self {
             Rule::Start => "Start",
             Rule::Version => "Version",
             Rule::Unnamed => "Unnamed",
@@ -43,6 +45,14 @@ impl fmt::Display for Rule {
             Rule::Given => "Given",
             Rule::Fresh => "Fresh",
             Rule::Asked => "Asked",
-        })
+        }
+    }
+}
+
+impl fmt::Display for Rule {
+    ghost output = { λ rule. Some (name_of rule) };
+
+    fn fmt<W: fmt::Write>(&self, f: &mut fmt::Formatter<W>) -> fmt::Result {
+        f.write_str(self.name())
     }
 }

@@ -1,4 +1,5 @@
 pub mod Refusal
+pub mod RefusalText
 pub mod Field
 pub mod Row
 pub mod Rows

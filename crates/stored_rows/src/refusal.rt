@@ -2,11 +2,14 @@
 
 ghost use Rattle.std.specs.Prelude.{◌≡◌};
 ghost use Rattle.stored_rows.specs.declared.refusal.RowRefusal.TheVariants.{Memory};
+ghost use Rattle.stored_rows.specs.RefusalText.{refusal_text};
+ghost use Rattle.refusal_text.specs.Told.{told_text, spaced};
 
 use avro_container::ContainerRefusal;
 use avro_schema::SchemaRefusal;
 use datum_reading::DatumRefusal;
 use limits::Which;
+use refusal_text::Told;
 use std::alloc::{AllocError, AllocFailed};
 
 /// Why the rows of a data file can't be read or written: the first cause in the order of the
@@ -35,6 +38,26 @@ pub enum RowRefusal {
     Limit { which: Which, found: u64 },
     /// There was no memory.
     Memory,
+}
+
+impl RowRefusal {
+    /// The text of the refusal.
+    pub fn told(&self) -> Told<'_>
+        ensures { told_text result ≡ spaced (refusal_text self.now) }
+    {
+        match self {
+            RowRefusal::Container(refusal) => refusal.told(),
+            RowRefusal::Schema(refusal) => refusal.told(),
+            RowRefusal::MissingColumn { id } => Told::id("MissingColumn", *id),
+            RowRefusal::Kind { id } => Told::id("Kind", *id),
+            RowRefusal::Datum(refusal) => refusal.told(),
+            RowRefusal::Rest { block } => Told::number("Rest", *block),
+            RowRefusal::RecordCount { told, found } => Told::numbers("RecordCount", *told, *found),
+            RowRefusal::IdsSpent { first, rows } => Told::numbers("IdsSpent", *first, *rows),
+            RowRefusal::Limit { which, found } => Told::number(which.name(), *found),
+            RowRefusal::Memory => Told::nothing(),
+        }
+    }
 }
 
 impl From<AllocError> for RowRefusal {
