@@ -21,4 +21,4 @@ pub use layout::{Layout, lay_out};
 pub use passing::pass_record;
 pub use refusal::FieldRefusal;
 pub use taking::{Cells, nulls, record_agrees, take_known_record, take_record};
-pub use wanted::Wanted;
+pub use wanted::{Wanted, fields_of};

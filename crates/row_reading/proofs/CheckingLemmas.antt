@@ -1,10 +1,11 @@
 -- The checks of a file in their order: which refusal comes, and what a file that is right has.
-use Rattle.std.proofs.Common.{◌≡◌, ℕ, ◌+◌, ◌-◌, ◌≤◌, false, List, [], ◌++◌, length, Result, Ok, Err, Some, None, refl}
-use Rattle.std.proofs.Common.{sym, ap, subst, ◌∙◌, inl, inr, arith}
-use Rattle.std.specs.Prelude.{ℤ, pos, ◌+ℤ◌, ◌<ℤ◌, ◌≤ℤ◌, ◌^◌, int_lt, is_ok, Option, IfSome}
+use Rattle.std.proofs.Common.{◌≡◌, ℕ, ◌+◌, ◌-◌, ◌≤◌, false, List, [], length, Ok, Err, refl, sym, ap, ap₂, subst}
+use Rattle.std.proofs.Common.{◌∙◌, inl, inr, arith}
+use Rattle.std.specs.Prelude.{ℤ, pos, ◌+ℤ◌, ◌<ℤ◌, ◌≤ℤ◌, ◌^◌, int_lt, Option, Some, None, Result}
 use Rattle.std.proofs.lemmas.Bool.{cases_Bool}
 use Rattle.std.proofs.lemmas.Int.{ints}
-use Rattle.words.specs.Reading.{◌>>=◌, map_value, value_or, Gives}
+use Rattle.words.specs.Reading.{◌>>=◌, outcome, Gives}
+use Rattle.words.specs.Laws.{refused_for_certain}
 use Rattle.row_types.specs.declared.column.Column.{Column}
 use Rattle.row_types.specs.declared.row.Row.{Row}
 use Rattle.row_types.specs.declared.row.StoredRow.{StoredRow}
@@ -12,21 +13,20 @@ use Rattle.schema_tree.specs.declared.schema.Field.{Field}
 use Rattle.schema_tree.specs.declared.schema.Schema.{Schema}
 use Rattle.avro_container.specs.declared.container.Block.{Block}
 use Rattle.avro_container.specs.declared.container.Container.{Container}
-use Rattle.words.specs.Steps.{ok_is}
+use Rattle.objects.specs.Stream.{Stream, unless, all}
+use Rattle.objects.specs.Blocks.{count_all, objects_of}
+use Rattle.objects.specs.StreamLaws.{all_checked, all_refused}
+use Rattle.objects.specs.CountLaws.{objects_counted}
+use Rattle.fields.specs.Wanted.{fields_of}
 use Rattle.stored_rows.specs.declared.refusal.RowRefusal.{RowRefusal}
-use Rattle.row_reading.specs.declared.row.Layout.{Layout}
-use Rattle.row_reading.specs.declared.row.RowRef.{RowRef}
-use Rattle.row_reading.specs.declared.checked.Rest.{Rest}
+use Rattle.stored_rows.specs.declared.refusal.RowRefusal.TheVariants.{Rest}
 use Rattle.stored_rows.specs.Refusal.{is_memory}
-use Rattle.stored_rows.specs.Field.{fields_of, check_fields}
-use Rattle.row_reading.specs.Plan.{IsPlan}
-use Rattle.row_reading.specs.File.{blocks_rows, check_counts, check_told, check_ids, opened, rows_in, rows_of}
+use Rattle.stored_rows.specs.Field.{check_fields}
 use Rattle.stored_rows.specs.Rows.{most_rows, rows_from}
-use Rattle.row_reading.specs.Checking.{check_before_rows, check_all_rows, AreRight, rows_of_blocks, rows_opened}
-use Rattle.row_reading.specs.Checked.{rest_of_block, rows_behind, rest_of_file, IsChecked}
-use Rattle.row_reading.proofs.BlockLemmas.{Rows}
-use Rattle.row_reading.proofs.RestLemmas.{of_block}
-use Rattle.row_reading.proofs.ShownLemmas.{ids_same}
+use Rattle.row_reading.specs.declared.row.RowReader.{RowReader}
+use Rattle.row_reading.specs.File.{row_at, check_counts, check_told, check_ids, opened, rows_in, rows_of}
+use Rattle.row_reading.specs.Checking.{check_before_rows, check_all_rows, rows_in_blocks, HaveIds, AreRight}
+use Rattle.row_reading.specs.Checking.{rows_of_blocks, rows_opened}
 
 -- what a check answers
 abbrev pub Answer : Type 0
@@ -34,185 +34,211 @@ Answer = Result (Unit {0}) RowRefusal
 
 -- ---- what comes before the rows
 
--- what was checked of fields and columns that are these was checked of these
-pub fields_so : (columns same : List Column) (schema : Schema) (fields : List Field) (answer : Answer) → same ≡ columns → fields ≡ fields_of schema → answer ≡ check_fields fields same → check_fields (fields_of schema) columns ≡ answer
-fields_so columns same schema fields answer columns_are fields_are is = rw (← fields_are, ← columns_are) (sym is)
-
--- and of counts
-pub counts_so : (blocks left : List Block) (answer : Answer) → left ≡ blocks → answer ≡ check_counts 0 left → check_counts 0 blocks ≡ answer
-counts_so blocks left answer left_is is = rw (← left_is) (sym is)
+-- what was checked of fields that are these was checked of these
+pub fields_so : (columns : List Column) (schema : Schema) (fields : List Field) (answer : Answer)
+    → fields ≡ fields_of schema → answer ≡ check_fields fields columns → check_fields (fields_of schema) columns ≡ answer
+fields_so columns schema fields answer fields_are is = sym (is ∙ ap (λ (fs : List Field). check_fields fs columns) fields_are)
 
 -- the fields can't be read
-pub fields_refused : (columns same : List Column) (schema : Schema) (fields : List Field) (blocks : List Block) (e : RowRefusal) → same ≡ columns → fields ≡ fields_of schema → check_fields fields same ≡ Err e → check_before_rows columns schema blocks ≡ Err e
+pub fields_refused : (columns : List Column) (schema : Schema) (blocks : List Block) (e : RowRefusal)
+    → check_fields (fields_of schema) columns ≡ Err e → check_before_rows columns schema blocks ≡ Err e
 unfolding check_before_rows
-fields_refused columns same schema fields blocks e columns_are fields_are refused =
-    let wrong = fields_so columns same schema fields (Err e) columns_are fields_are (sym refused) in
-    rw wrong refl
+fields_refused columns schema blocks e refused = rw refused refl
 
 -- they can, and the counts are as they are
-pub counts_answered : (columns same : List Column) (schema : Schema) (fields : List Field) (blocks left : List Block) (answer : Answer) → same ≡ columns → fields ≡ fields_of schema → check_fields fields same ≡ Ok tt → left ≡ blocks → answer ≡ check_counts 0 left
-    → answer ≡ check_before_rows columns schema blocks
+pub counts_answered : (columns : List Column) (schema : Schema) (blocks left : List Block) (answer : Answer)
+    → check_fields (fields_of schema) columns ≡ Ok tt → left ≡ blocks → check_counts 0 left ≡ answer
+    → check_before_rows columns schema blocks ≡ answer
 unfolding check_before_rows
-counts_answered columns same schema fields blocks left answer columns_are fields_are readable left_is is =
-    let right = fields_so columns same schema fields (Ok tt) columns_are fields_are (sym readable) in
-    let counts = counts_so blocks left answer left_is is in
-    rw (right, counts) refl
+counts_answered columns schema blocks left answer readable left_is is =
+    rw readable (ap (check_counts 0) (sym left_is) ∙ is)
 
 -- ---- the rows
 
--- what is counted of rows that are refused
-uncounted : {E : Type 0} (read : Result (List StoredRow) E) (e : E) → map_value length read ≡ Err e → read ≡ Err e
-uncounted (Ok rows) e refused = absurd cc
-uncounted (Err d) e refused = cc
+-- the rows that are left, if they are those of all blocks, and how many the blocks say that they have
+module _ (columns : List Column) (schema : Schema) (blocks : List Block) (first told : Option ℤ) (rows : ℕ)
+    (left : Stream StoredRow RowRefusal) (are : left ≡ rows_in_blocks columns schema blocks) (count : rows ≡ count_all blocks) where
+  outcome_is : (answer : Answer) → outcome (all left) ≡ answer → outcome (all (rows_in_blocks columns schema blocks)) ≡ answer
+  outcome_is answer is = ap (λ (s : Stream StoredRow RowRefusal). outcome (all s)) (sym are) ∙ is
 
--- rows that are counted are there, as many as were counted
-counted : {E : Type 0} (read : Result (List StoredRow) E) (count : ℕ) → map_value length read ≡ Ok count → (read ≡ Ok (value_or [] read)) × (length (value_or [] read) ≡ count)
-counted (Ok rows) count counts = (refl, ok_is (length rows) count counts)
-counted (Err e) count counts = absurd cc
+  -- a row is refused
+  pub rows_wrong : (e : RowRefusal) → outcome (all left) ≡ Err e → check_all_rows columns schema blocks first told ≡ Err e
+  unfolding check_all_rows
+  rows_wrong e wrong = rw (all_refused (rows_in_blocks columns schema blocks) e (outcome_is (Err e) wrong)) refl
 
--- rows that were counted of blocks that are these were counted of these
-rows_so : (columns : List Column) (schema : Schema) (blocks left : List Block) (answer : Result ℕ RowRefusal) → left ≡ blocks → map_value length (blocks_rows schema columns 1 left) ≡ answer → map_value length (blocks_rows schema columns 1 blocks) ≡ answer
-rows_so columns schema blocks left answer left_is is = rw (← left_is) is
+  -- all can be read, and they are as many
+  many : outcome (all left) ≡ Ok tt → length (rows_in_blocks columns schema blocks).objects ≡ rows
+  many right =
+      let checked = all_checked (rows_in_blocks columns schema blocks) (outcome_is (Ok tt) right) in
+      objects_counted (row_at schema columns) Rest blocks 1 checked.0 ∙ sym count
 
--- rows are refused
-pub rows_wrong : (columns : List Column) (schema : Schema) (blocks left : List Block) (first told : Option ℤ) (e : RowRefusal) → left ≡ blocks → map_value length (blocks_rows schema columns 1 left) ≡ Err e → check_all_rows columns schema blocks first told ≡ Err e
-unfolding check_all_rows
-rows_wrong columns schema blocks left first told e left_is wrong =
-    let read = rows_so columns schema blocks left (Err e) left_is wrong in
-    rw read refl
+  answered : outcome (all left) ≡ Ok tt
+      → check_all_rows columns schema blocks first told ≡ (check_told told rows >>= λ _. check_ids first rows)
+  unfolding check_all_rows
+  answered right =
+      let checked = all_checked (rows_in_blocks columns schema blocks) (outcome_is (Ok tt) right) in
+      rw checked.1 (ap (λ (n : ℕ). check_told told n >>= λ _. check_ids first n) (many right))
 
--- the caller says another number of rows
-pub told_wrong : (columns : List Column) (schema : Schema) (blocks left : List Block) (first told : Option ℤ) (rows : ℕ) (e : RowRefusal) → left ≡ blocks → map_value length (blocks_rows schema columns 1 left) ≡ Ok rows → check_told told rows ≡ Err e
-    → check_all_rows columns schema blocks first told ≡ Err e
-unfolding check_all_rows
-told_wrong columns schema blocks left first told rows e left_is is wrong =
-    let read = rows_so columns schema blocks left (Ok rows) left_is is in
-    rw (read, wrong) refl
+  -- the caller says another number of rows
+  pub told_wrong : (e : RowRefusal) → outcome (all left) ≡ Ok tt → check_told told rows ≡ Err e
+      → check_all_rows columns schema blocks first told ≡ Err e
+  told_wrong e right wrong = answered right ∙ ap (λ (r : Answer). r >>= λ _. check_ids first rows) wrong
 
--- it is the number, and the ids are as they are
-pub ids_answered : (columns : List Column) (schema : Schema) (blocks left : List Block) (first told : Option ℤ) (rows : ℕ) (answer : Answer) → left ≡ blocks → map_value length (blocks_rows schema columns 1 left) ≡ Ok rows → check_told told rows ≡ Ok tt
-    → answer ≡ check_ids first rows → answer ≡ check_all_rows columns schema blocks first told
-unfolding check_all_rows
-ids_answered columns schema blocks left first told rows answer left_is is as_told ids =
-    let read = rows_so columns schema blocks left (Ok rows) left_is is in
-    rw (read, as_told) ids
+  -- it is the number, and the ids are as they are
+  pub ids_answered : (answer : Answer) → outcome (all left) ≡ Ok tt → check_told told rows ≡ Ok tt
+      → check_ids first rows ≡ answer → check_all_rows columns schema blocks first told ≡ answer
+  ids_answered answer right as_told ids =
+      answered right ∙ (ap (λ (r : Answer). r >>= λ _. check_ids first rows) as_told ∙ ids)
 
--- what a test finds not to be above isn't above
-not_above : (most sum : ℤ) → int_lt most sum ≡ false → sum ≤ℤ most
-not_above most sum within = grind (arith, ints)
+  -- what a test finds not to be above isn't above
+  not_above : (most sum : ℤ) → int_lt most sum ≡ false → sum ≤ℤ most
+  not_above most sum within = grind (arith, ints)
 
--- what isn't above the largest long is below the next number
-below_next : (sum : ℤ) → sum ≤ℤ pos (2 ^ 63 - 1) → sum <ℤ pos (2 ^ 63)
-below_next sum within = omega (arith, ints)
+  -- what isn't above the largest long is below the next number
+  below_next : (sum : ℤ) → sum ≤ℤ pos (2 ^ 63 - 1) → sum <ℤ pos (2 ^ 63)
+  below_next sum within = omega (arith, ints)
 
--- ids that pass the check are longs
-ids_within : (first : Option ℤ) (rows : ℕ) → check_ids first rows ≡ Ok tt → IfSome first (λ id. (id +ℤ pos rows) <ℤ pos (2 ^ 63))
-ids_within None rows passed = tt
-ids_within (Some id) rows passed =
-    elim (cases_Bool (int_lt (pos (2 ^ 63 - 1)) (id +ℤ pos rows))) [
-      | inl above ↦ absurd (let wrong = rw above at passed in cc)
-      | inr within ↦ below_next (id +ℤ pos rows) (not_above (pos (2 ^ 63 - 1)) (id +ℤ pos rows) within)
-    ]
+  -- ids that pass the check are longs
+  ids_within : (from : Option ℤ) (n : ℕ) → check_ids from n ≡ Ok tt → HaveIds from n
+  ids_within None n passed = tt
+  ids_within (Some id) n passed =
+      elim (cases_Bool (int_lt (pos (2 ^ 63 - 1)) (id +ℤ pos n))) [
+        | inl above ↦ absurd (let wrong = rw above at passed in cc)
+        | inr within ↦ below_next (id +ℤ pos n) (not_above (pos (2 ^ 63 - 1)) (id +ℤ pos n) within)
+      ]
 
--- rows that passed all checks are right
-pub rows_right : (columns : List Column) (schema : Schema) (blocks left after : List Block) (first : Option ℤ) (rows : ℕ) → left ≡ blocks → after ≡ blocks → map_value length (blocks_rows schema columns 1 left) ≡ Ok rows → rows ≤ most_rows → check_ids first rows ≡ Ok tt
-    → AreRight columns schema after first
-rows_right columns schema blocks left after first rows left_is after_is is few ids =
-    let has = counted (blocks_rows schema columns 1 after) rows (rows_so columns schema after left (Ok rows) (left_is ∙ sym after_is) is) in
-    record {
-      rows = ap is_ok has.0;
-      few = omega (arith, few, has.1);
-      ids = ids_same first rows (length (value_or [] (blocks_rows schema columns 1 after))) (sym has.1) (ids_within first rows ids);
-    }
+  -- rows that passed all checks are right
+  pub rows_right : outcome (all left) ≡ Ok tt → rows ≤ most_rows → check_ids first rows ≡ Ok tt
+      → AreRight (rows_in_blocks columns schema blocks) first
+  rows_right right few ids = record {
+    right = (all_checked (rows_in_blocks columns schema blocks) (outcome_is (Ok tt) right)).0;
+    few = omega (arith, few, many right);
+    ids = subst (HaveIds first) (sym (many right)) (ids_within first rows ids);
+  }
 
 -- ---- the rows of a file that was opened
 
 -- two checks refuse what is read behind them
-refused_behind : {A E : Type 0} (first second : Result (Unit {0}) E) (x : A) (e : E) → (first >>= λ _. second) ≡ Err e → (first >>= λ _. second >>= λ _. Ok x) ≡ Err e
+refused_behind : {A E : Type 0} (first second : Result (Unit {0}) E) (x : A) (e : E)
+    → (first >>= λ _. second) ≡ Err e → (first >>= λ _. second >>= λ _. Ok x) ≡ Err e
 refused_behind (Ok u) (Ok v) x e is = absurd cc
 refused_behind (Ok u) (Err d) x e is = cc
 refused_behind (Err d) second x e is = cc
 
 -- or let it through
-passed_behind : {A E : Type 0} (first second : Result (Unit {0}) E) (x : A) → (first >>= λ _. second) ≡ Ok tt → (first >>= λ _. second >>= λ _. Ok x) ≡ Ok x
+passed_behind : {A E : Type 0} (first second : Result (Unit {0}) E) (x : A)
+    → (first >>= λ _. second) ≡ Ok tt → (first >>= λ _. second >>= λ _. Ok x) ≡ Ok x
 passed_behind (Ok u) (Ok v) x is = refl
 passed_behind (Ok u) (Err d) x is = absurd cc
 passed_behind (Err d) second x is = absurd cc
 
+-- what is checked of rows that are read
+abbrev checks : Result (List StoredRow) RowRefusal → Option ℤ → Option ℤ → Answer
+checks read first told = read >>= λ rows. check_told told (length rows) >>= λ _. check_ids first (length rows)
+
+-- the rows, if the checks pass
+abbrev answers : Result (List StoredRow) RowRefusal → Option ℤ → Option ℤ → ℤ → Result (List Row) RowRefusal
+answers read first told sequence =
+    read >>= λ stored. check_told told (length stored) >>= λ _. check_ids first (length stored) >>= λ _. Ok (rows_from first sequence 0 stored)
+
 -- rows that are refused when they are checked are when they are read
-read_refused : (read : Rows) (first told : Option ℤ) (sequence : ℤ) (e : RowRefusal) → (map_value length read >>= λ rows. check_told told rows >>= λ _. check_ids first rows) ≡ Err e
-    → (read >>= λ stored. check_told told (length stored) >>= λ _. check_ids first (length stored) >>= λ _. Ok (rows_from first sequence 0 stored)) ≡ Err e
-read_refused (Ok stored) first told sequence e is = refused_behind (check_told told (length stored)) (check_ids first (length stored)) (rows_from first sequence 0 stored) e is
-read_refused (Err d) first told sequence e is = cc
+read_refused : (fault : Option RowRefusal) (rows : List StoredRow) (first told : Option ℤ) (sequence : ℤ) (e : RowRefusal)
+    → checks (unless fault rows) first told ≡ Err e → answers (unless fault rows) first told sequence ≡ Err e
+read_refused None rows first told sequence e is =
+    refused_behind (check_told told (length rows)) (check_ids first (length rows)) (rows_from first sequence 0 rows) e is
+read_refused (Some d) rows first told sequence e is = cc
 
 -- and rows that pass are read
-read_passed : (read : Rows) (first told : Option ℤ) (sequence : ℤ) → (map_value length read >>= λ rows. check_told told rows >>= λ _. check_ids first rows) ≡ Ok tt
-    → (read >>= λ stored. check_told told (length stored) >>= λ _. check_ids first (length stored) >>= λ _. Ok (rows_from first sequence 0 stored)) ≡ Ok (rows_from first sequence 0 (value_or [] read))
-read_passed (Ok stored) first told sequence is = passed_behind (check_told told (length stored)) (check_ids first (length stored)) (rows_from first sequence 0 stored) is
-read_passed (Err d) first told sequence is = absurd cc
+read_passed : (fault : Option RowRefusal) (rows : List StoredRow) (first told : Option ℤ) (sequence : ℤ)
+    → checks (unless fault rows) first told ≡ Ok tt → answers (unless fault rows) first told sequence ≡ Ok (rows_from first sequence 0 rows)
+read_passed None rows first told sequence is =
+    passed_behind (check_told told (length rows)) (check_ids first (length rows)) (rows_from first sequence 0 rows) is
+read_passed (Some d) rows first told sequence is = absurd cc
 
 -- the same of blocks
-pub blocks_refused : (columns : List Column) (schema : Schema) (blocks : List Block) (first : Option ℤ) (sequence : ℤ) (told : Option ℤ) (e : RowRefusal) → check_all_rows columns schema blocks first told ≡ Err e → rows_of_blocks columns schema blocks first sequence told ≡ Err e
+pub blocks_refused : (columns : List Column) (schema : Schema) (blocks : List Block) (first : Option ℤ) (sequence : ℤ)
+    (told : Option ℤ) (e : RowRefusal) → check_all_rows columns schema blocks first told ≡ Err e
+    → rows_of_blocks columns schema blocks first sequence told ≡ Err e
 unfolding check_all_rows rows_of_blocks
-blocks_refused columns schema blocks first sequence told e refused = read_refused (blocks_rows schema columns 1 blocks) first told sequence e refused
+blocks_refused columns schema blocks first sequence told e refused =
+    let stream = rows_in_blocks columns schema blocks in
+    read_refused stream.fault stream.objects first told sequence e refused
 
-pub blocks_passed : (columns : List Column) (schema : Schema) (blocks left : List Block) (first : Option ℤ) (sequence : ℤ) (told : Option ℤ) → check_all_rows columns schema blocks first told ≡ Ok tt → left ≡ blocks
-    → rows_of_blocks columns schema blocks first sequence told ≡ Ok (rows_from first sequence 0 (value_or [] (blocks_rows schema columns 1 left)))
+pub blocks_passed : (columns : List Column) (schema : Schema) (blocks : List Block) (first : Option ℤ) (sequence : ℤ)
+    (told : Option ℤ) (left : Stream StoredRow RowRefusal) → check_all_rows columns schema blocks first told ≡ Ok tt
+    → left ≡ rows_in_blocks columns schema blocks
+    → rows_of_blocks columns schema blocks first sequence told ≡ Ok (rows_from first sequence 0 left.objects)
 unfolding check_all_rows rows_of_blocks
-blocks_passed columns schema blocks left first sequence told passed left_is = rw left_is (read_passed (blocks_rows schema columns 1 blocks) first told sequence passed)
+blocks_passed columns schema blocks first sequence told left passed is =
+    let stream = rows_in_blocks columns schema blocks in
+    read_passed stream.fault stream.objects first told sequence passed
+    ∙ ap (λ (s : Stream StoredRow RowRefusal). Ok (rows_from first sequence 0 s.objects)) (sym is)
+
+-- what was checked of a reader and a container that are these was checked of these
+pub checked_so : (reader same : RowReader) (container after : Container) (first told : Option ℤ) (answer : Answer)
+    → same ≡ reader → after ≡ container
+    → answer ≡ check_all_rows same.columns.now same.layout.schema after.blocks first told
+    → check_all_rows reader.columns.now reader.layout.schema container.blocks first told ≡ answer
+checked_so reader same container after first told answer reader_is container_is is =
+    sym (is ∙ ap₂ (λ (r : RowReader) (c : Container). check_all_rows r.columns.now r.layout.schema c.blocks first told) reader_is container_is)
+
+-- and the rows of these are the rows of these
+pub rows_so : (reader same : RowReader) (container after : Container) → same ≡ reader → after ≡ container
+    → rows_in_blocks same.columns.now same.layout.schema after.blocks
+    ≡ rows_in_blocks reader.columns.now reader.layout.schema container.blocks
+rows_so reader same container after reader_is container_is =
+    ap₂ (λ (r : RowReader) (c : Container). rows_in_blocks r.columns.now r.layout.schema c.blocks) reader_is container_is
 
 -- a file is refused before its rows
-pub before_refused : (columns : List Column) (first : Option ℤ) (sequence : ℤ) (told : Option ℤ) (container : Container) (schema : Schema) (e : RowRefusal) → check_before_rows columns schema container.blocks ≡ Err e → rows_opened columns first sequence told (container, schema) ≡ Err e
+pub before_refused : (columns : List Column) (first : Option ℤ) (sequence : ℤ) (told : Option ℤ) (container : Container)
+    (schema : Schema) (e : RowRefusal) → check_before_rows columns schema container.blocks ≡ Err e
+    → rows_opened columns first sequence told (container, schema) ≡ Err e
 unfolding rows_opened
 before_refused columns first sequence told container schema e refused = rw refused refl
 
 -- or has the rows of its blocks
-pub opened_given : {X : Type 0} (view : X → List Row) (columns same : List Column) (container after : Container) (schema other : Schema) (first : Option ℤ) (sequence : ℤ) (told : Option ℤ) (result : Result X RowRefusal) → check_before_rows columns schema container.blocks ≡ Ok tt
-    → same ≡ columns → after ≡ container → other ≡ schema → Gives is_memory view result (rows_of_blocks same other after.blocks first sequence told) → Gives is_memory view result (rows_opened columns first sequence told (container, schema))
+pub opened_given : {X : Type 0} (view : X → List Row) (columns same : List Column) (container after : Container)
+    (schema other : Schema) (first : Option ℤ) (sequence : ℤ) (told : Option ℤ) (result : Result X RowRefusal)
+    → check_before_rows columns schema container.blocks ≡ Ok tt → same ≡ columns → after ≡ container → other ≡ schema
+    → Gives is_memory view result (rows_of_blocks same other after.blocks first sequence told)
+    → Gives is_memory view result (rows_opened columns first sequence told (container, schema))
 unfolding rows_opened
 opened_given view columns same container after schema other first sequence told result passed columns_are container_is schema_is given =
-    let whole : rows_of_blocks same other after.blocks first sequence told ≡ rows_opened columns first sequence told (container, schema) = rw (columns_are, container_is, schema_is, passed) refl in
+    let whole : rows_of_blocks same other after.blocks first sequence told
+    ≡ rows_opened columns first sequence told (container, schema) = rw (columns_are, container_is, schema_is, passed) refl in
     subst (λ (read : Result (List Row) RowRefusal). Gives is_memory view result read) whole given
 
 -- ---- the whole file
 
 -- two checks and what is read behind them, and then what is made of that
-parted : {A B E : Type 0} (first second : Result (Unit {0}) E) (read : Result A E) (after : A → Result B E) → ((first >>= λ _. second >>= λ _. read) >>= after) ≡ ((first >>= λ _. second) >>= λ _. read >>= after)
+parted : {A B E : Type 0} (first second : Result (Unit {0}) E) (read : Result A E) (after : A → Result B E)
+    → ((first >>= λ _. second >>= λ _. read) >>= after) ≡ ((first >>= λ _. second) >>= λ _. read >>= after)
 parted (Ok u) (Ok v) read after = refl
 parted (Ok u) (Err d) read after = refl
 parted (Err d) second read after = refl
 
 -- the file is no container with a schema
-pub unopened : (bytes : List ℕ) (columns : List Column) (first : Option ℤ) (sequence : ℤ) (told : Option ℤ) (e : RowRefusal) → opened bytes ≡ Err e → rows_of bytes columns first sequence told ≡ Err e
+pub unopened : (bytes : List ℕ) (columns : List Column) (first : Option ℤ) (sequence : ℤ) (told : Option ℤ)
+    (e : RowRefusal) → opened bytes ≡ Err e → rows_of bytes columns first sequence told ≡ Err e
 unfolding rows_of
 unopened bytes columns first sequence told e refused = rw refused refl
 
 -- it is one, and has the rows of the file that was opened
-as_opened : (bytes : List ℕ) (columns : List Column) (first : Option ℤ) (sequence : ℤ) (told : Option ℤ) (container : Container) (schema : Schema) → opened bytes ≡ Ok (container, schema)
+as_opened : (bytes : List ℕ) (columns : List Column) (first : Option ℤ) (sequence : ℤ) (told : Option ℤ)
+    (container : Container) (schema : Schema) → opened bytes ≡ Ok (container, schema)
     → rows_of bytes columns first sequence told ≡ rows_opened columns first sequence told (container, schema)
 unfolding rows_of rows_in rows_opened rows_of_blocks check_before_rows
 as_opened bytes columns first sequence told container schema file =
-    rw file (parted (check_fields (fields_of schema) columns) (check_counts 0 container.blocks) (blocks_rows schema columns 1 container.blocks)
+    rw file (parted (check_fields (fields_of schema) columns) (check_counts 0 container.blocks)
+    (objects_of (row_at schema columns) Rest container.blocks)
     (λ (stored : List StoredRow). check_told told (length stored) >>= λ _. check_ids first (length stored) >>= λ _. Ok (rows_from first sequence 0 stored)))
 
 -- and so they are given
-pub file_given : {X : Type 0} (view : X → List Row) (bytes : List ℕ) (columns : List Column) (first : Option ℤ) (sequence : ℤ) (told : Option ℤ) (container : Container) (schema : Schema) (result : Result X RowRefusal) → opened bytes ≡ Ok (container, schema)
-    → Gives is_memory view result (rows_opened columns first sequence told (container, schema)) → Gives is_memory view result (rows_of bytes columns first sequence told)
+pub file_given : {X : Type 0} (view : X → List Row) (bytes : List ℕ) (columns : List Column) (first : Option ℤ)
+    (sequence : ℤ) (told : Option ℤ) (container : Container) (schema : Schema) (result : Result X RowRefusal)
+    → opened bytes ≡ Ok (container, schema)
+    → Gives is_memory view result (rows_opened columns first sequence told (container, schema))
+    → Gives is_memory view result (rows_of bytes columns first sequence told)
 file_given view bytes columns first sequence told container schema result file given =
-    subst (λ (read : Result (List Row) RowRefusal). Gives is_memory view result read) (sym (as_opened bytes columns first sequence told container schema file)) given
-
--- ---- before the first row is shown
-
--- all rows are left, and they were checked
-pub checked_at_first : (layout : Layout) (rest : Rest) (first : Option ℤ) (row : RowRef) → IsPlan layout.columns.now (fields_of layout.schema) layout.steps.items → length row.cells.items ≡ length layout.columns.now → AreRight layout.columns.now layout.schema rest.walk.left first
-    → rest.left ≡ 0 → rest.place ≡ 0 → IsChecked layout rest first 0 row
-checked_at_first layout rest first row plan width right none start =
-    let ended : rest_of_block layout rest ≡ Ok [] = ap (λ (left : ℕ). of_block layout.schema layout.columns.now rest.block.now left rest.place) none in
-    let same : rest_of_file layout rest ≡ value_or [] (rows_behind layout rest) = ap (λ (rows : Rows). value_or [] rows ++ value_or [] (rows_behind layout rest)) ended in
-    record {
-      plan = plan;
-      width = width;
-      right = record { within = omega arith; block = ap is_ok ended; behind = right.rows };
-      few = omega (arith, right.few, ap length same);
-      ids = ids_same first (length (value_or [] (rows_behind layout rest))) (0 + length (rest_of_file layout rest)) (omega (arith, ap length same)) right.ids;
-    }
+    let is = as_opened bytes columns first sequence told container schema file in
+    subst (λ (read : Result (List Row) RowRefusal). Gives is_memory view result read) (sym is) given

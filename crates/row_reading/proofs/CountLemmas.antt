@@ -1,12 +1,11 @@
 -- The counts of blocks, one after the other.
-use Rattle.std.proofs.Common.{◌≡◌, ℕ, ◌+◌, ◌<◌, ◌≤◌, List, [], ◌∷◌, Result, Ok, Err, refl, sym, ◌∙◌, inl, inr}
-use Rattle.std.specs.Prelude.{nat_lt}
-use Rattle.std.proofs.lemmas.Bool.{cases_Bool, lt-ltb, le-ltb, ltb-false}
+use Rattle.std.proofs.Common.{◌≡◌, ℕ, ◌+◌, ◌<◌, ◌≤◌, List, [], ◌∷◌, Ok, Err, refl, arith}
+use Rattle.std.proofs.lemmas.Bool.{lt-ltb, le-ltb}
 use Rattle.limits.specs.declared.which.Which.TheVariants.{FileRows}
 use Rattle.avro_container.specs.declared.container.Block.{Block}
-use Rattle.stored_rows.specs.declared.refusal.RowRefusal.{RowRefusal}
 use Rattle.stored_rows.specs.declared.refusal.RowRefusal.TheVariants.{Limit}
-use Rattle.row_reading.specs.File.{count_of, check_counts}
+use Rattle.objects.specs.Blocks.{count_of, count_all}
+use Rattle.row_reading.specs.File.{check_counts}
 use Rattle.stored_rows.specs.Rows.{most_rows}
 
 -- a block's count is added
@@ -26,15 +25,11 @@ pub counts_end : (before : ℕ) (blocks : List Block) → blocks ≡ [] → chec
 unfolding check_counts
 counts_end before blocks none = rw none refl
 
--- a sum above the limit isn't right
-over_limit : (refusal : RowRefusal) → ◌≡◌ {A = Result (Unit {0}) RowRefusal} (Err refusal) (Ok tt) → ⊥
-over_limit refusal same = cc
-
--- a block's count, added to those before it, is within the limit
-pub counts_within : (before count : ℕ) (blocks : List Block) (block : Block) (others : List Block) → blocks ≡ block ∷ others → count_of block ≡ count → check_counts before blocks ≡ Ok tt → before + count ≤ most_rows
+-- counts that are few together pass the check
+pub counts_few : (blocks : List Block) (before : ℕ) → before + count_all blocks ≤ most_rows → check_counts before blocks ≡ Ok tt
 unfolding check_counts
-counts_within before count blocks block others is here few =
-    elim (cases_Bool (nat_lt most_rows (before + count))) [
-      | inl over ↦ absurd (over_limit (Limit FileRows (before + count)) (sym (rw (is, here, over) refl) ∙ few))
-      | inr within ↦ ltb-false most_rows (before + count) within
-    ]
+counts_few [] before few = refl
+counts_few (block ∷ blocks) before few =
+    let here : before + count_of block ≤ most_rows = omega (arith, few) in
+    let others = counts_few blocks (before + count_of block) (omega (arith, few)) in
+    rw (le-ltb most_rows (before + count_of block) here) others

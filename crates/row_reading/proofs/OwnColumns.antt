@@ -21,7 +21,8 @@ use Rattle.avro_container.specs.declared.container.Container.{Container}
 use Rattle.words.specs.Steps.{bind_then, test_failed, ok_is}
 use Rattle.stored_rows.specs.declared.refusal.RowRefusal.{RowRefusal}
 use Rattle.cell_reading.specs.Kind.{Level, Nullable, nullable, holds, is_allowed, int_kind, long_kind, kind_of}
-use Rattle.stored_rows.specs.Field.{is_this, find_from, find, fields_of}
+use Rattle.fields.specs.Wanted.{fields_of}
+use Rattle.stored_rows.specs.Field.{is_this, find_from, find}
 use Rattle.row_reading.specs.File.{Opened, opened}
 use Rattle.row_reading.specs.Columns.{first_reserved_id, column_of_kind, column_of_type, with_field, columns_from}
 use Rattle.row_reading.specs.Columns.{no_fault, checked, columns_in, file_columns_of}

@@ -19,13 +19,18 @@ use Rattle.avro_container.specs.Container.{container_at, most_bytes}
 use Rattle.avro_container.specs.Format.{IsContainer}
 use Rattle.words.specs.Steps.{bind_then, map_ok, ok_is}
 use Rattle.stored_rows.specs.Refusal.{container_refusal, schema_refusal}
-use Rattle.stored_rows.specs.Field.{fields_of, check_fields}
-use Rattle.row_reading.specs.File.{check_counts, check_told, check_ids, schema_in, Opened, opened, rows_in, rows_of}
+use Rattle.fields.specs.Wanted.{fields_of}
+use Rattle.stored_rows.specs.Field.{check_fields}
+use Rattle.objects.specs.HeldLaws.{objects_found, objects_only}
+use Rattle.objects.specs.CountLaws.{held_counted}
+use Rattle.stored_rows.specs.declared.refusal.RowRefusal.TheVariants.{Rest}
+use Rattle.row_reading.specs.File.{row_at, check_counts, check_told, check_ids, schema_in, Opened, opened, rows_in, rows_of}
 use Rattle.stored_rows.specs.Rows.{rows_from}
-use Rattle.stored_rows.specs.Stored.{StoresRows, ReadsRows, AreRead}
+use Rattle.stored_rows.specs.Stored.{StoresRow, StoresRows, ReadsRows, AreRead}
 use Rattle.stored_rows.specs.FieldLaws.{fields_readable, fields_checked}
 use Rattle.row_reading.specs.Laws.{Laws}
-use Rattle.row_reading.proofs.StoredBlocks.{blocks_took, blocks_again, counts_few}
+use Rattle.row_reading.proofs.StoredRows.{rows_agree}
+use Rattle.row_reading.proofs.CountLemmas.{counts_few}
 
 -- ---- the container and the schema
 
@@ -83,16 +88,21 @@ module _ (laws : Laws) where
         bound = is.bound;
         written = is.written;
         readable = fields_readable (fields_of schema) columns done readable;
-        blocks = blocks_took laws.values columns schema container.sync container.blocks 1 is.framed.blocks stored is.framed.spelled rows_read;
+        blocks = objects_found (row_at schema columns) (StoresRow columns schema) (rows_agree laws.values schema columns) Rest container.blocks stored rows_read;
       }))
 
   -- rows that are stored, and are few, are read
   rows_in_again : (bytes : List ℕ) (columns : List Column) (stored : List StoredRow) (stores : StoresRows bytes columns stored) (first told : Option ℤ) → AreRead first told (length bytes) (length stored) → rows_in columns (stores.container, stores.schema) ≡ Ok stored
   unfolding rows_in
   rows_in_again bytes columns stored stores first told read =
-      let fields = fields_checked (fields_of stores.schema) columns stores.readable in
-      let counts = counts_few laws.values columns stores.schema stores.container.blocks 0 stored stores.blocks (omega (arith, read.few)) in
-      rw (fields, counts) (blocks_again laws.values columns stores.schema stores.container.blocks 1 stored stores.blocks)
+      let schema = stores.schema in
+      let blocks = stores.container.blocks in
+      let Stores = StoresRow columns schema in
+      let fields = fields_checked (fields_of schema) columns stores.readable in
+      let many = held_counted Stores blocks stored stores.blocks in
+      let counts = counts_few blocks 0 (omega (arith, read.few, many)) in
+      let agrees = rows_agree laws.values schema columns in
+      rw (fields, counts) (objects_only (row_at schema columns) Stores agrees Rest blocks stored stores.blocks)
 
   -- ---- the checks
 

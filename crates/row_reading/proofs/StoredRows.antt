@@ -11,10 +11,11 @@ use Rattle.datum_tree.specs.Value.{items_in}
 use Rattle.datum_reading.specs.Reading.{datum_at}
 use Rattle.words.specs.Parts.{Stand, Took}
 use Rattle.datum_reading.specs.Agreeing.{Passes, Agrees}
+use Rattle.objects.specs.Object.{Agrees as ObjectAgrees}
 use Rattle.datum_tree.specs.Spelling.{Spells}
 use Rattle.words.specs.Steps.{bind_then, map_ok, test_failed, ok_is}
 use Rattle.stored_rows.specs.Refusal.{datum_refusal}
-use Rattle.stored_rows.specs.Field.{fields_of}
+use Rattle.fields.specs.Wanted.{fields_of}
 use Rattle.row_types.specs.CellRef.{is_null}
 use Rattle.cell_reading.specs.Value.{values_of}
 use Rattle.stored_rows.specs.Row.{stored_row, check_nulls, checked_row}
@@ -83,7 +84,7 @@ module _ (agrees : (schema : Schema) → Agrees (datum_at schema) (Spells schema
       subst (λ (r : StoredRow). Took input place value.1.place (StoresRow columns schema r)) (ok_is (row_of schema columns value.0) row made) is)
 
   -- what is read is stored so
-  pub row_took : (schema : Schema) (columns : List Column) (input : List ℕ) (place : ℕ) (read : StoredRow × ℕ) → row_at schema columns input place ≡ Ok read → Took input place read.1 (StoresRow columns schema read.0)
+  row_took : (schema : Schema) (columns : List Column) (input : List ℕ) (place : ℕ) (read : StoredRow × ℕ) → row_at schema columns input place ≡ Ok read → Took input place read.1 (StoresRow columns schema read.0)
   unfolding row_at
   row_took schema columns input place read is =
       bind_then (map_refusal datum_refusal (datum_at schema input (start place))) _ read is (λ value value_read others.
@@ -92,7 +93,7 @@ module _ (agrees : (schema : Schema) → Agrees (datum_at schema) (Spells schema
       (row_is schema columns input place value row (map_ok datum_refusal (datum_at schema input (start place)) value value_read) checked)))
 
   -- what is stored so is read
-  pub row_again : (schema : Schema) (columns : List Column) (input : List ℕ) (place after : ℕ) (row : StoredRow) (bytes : List ℕ) → StoresRow columns schema row bytes → Stand input place after bytes → row_at schema columns input place ≡ Ok (row, after)
+  row_again : (schema : Schema) (columns : List Column) (input : List ℕ) (place after : ℕ) (row : StoredRow) (bytes : List ℕ) → StoresRow columns schema row bytes → Stand input place after bytes → row_at schema columns input place ≡ Ok (row, after)
   unfolding row_at
   row_again schema columns input place after row bytes stores stand =
       let behind : Cursor = record { place = after; items = items_in stores.datum } in
@@ -100,3 +101,7 @@ module _ (agrees : (schema : Schema) → Agrees (datum_at schema) (Spells schema
       let read = (agrees schema).complete input (start place) behind stores.datum bytes stores.encoded.spelled passes in
       ap (λ r. map_refusal datum_refusal r >>= λ value. checked_row columns (row_of schema columns value.0) >>= λ row. Ok (row, value.1.place)) read
       ∙ ap (λ r. r >>= λ row. Ok (row, after)) (row_checked columns row (row_of schema columns stores.datum) stores.stored stores.nulls)
+
+  -- the reading of a row agrees with what a row's bytes store
+  pub rows_agree : (schema : Schema) (columns : List Column) → ObjectAgrees (row_at schema columns) (StoresRow columns schema)
+  rows_agree schema columns = record { sound = row_took schema columns; complete = row_again schema columns }

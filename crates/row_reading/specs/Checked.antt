@@ -1,61 +1,44 @@
 -- The rows of a file that were checked, one after the other.
-use Rattle.std.specs.Prelude.{◌≡◌, ℕ, ◌+◌, ◌≤◌, ◌^◌, ℤ, pos, ◌+ℤ◌, ◌<ℤ◌, true, List, [], ◌++◌, length, map, Option}
-use Rattle.std.specs.Prelude.{Result, is_ok, IfSome}
-use Rattle.words.specs.Reading.{map_value, repeated, value_or}
+use Rattle.std.specs.Prelude.{◌≡◌, ℕ, ◌+◌, ◌≤◌, ℤ, List, length, map, Option, None}
+use Rattle.row_types.specs.CellRef.{lent_cell}
 use Rattle.row_types.specs.declared.row.Row.{Row}
 use Rattle.row_types.specs.declared.row.StoredRow.{StoredRow}
+use Rattle.objects.specs.declared.blocks.Rest.{Rest as TheRest}
+use Rattle.objects.specs.Stream.{Stream}
+use Rattle.objects.specs.Left.{left_of, IsReady}
+use Rattle.fields.specs.declared.taking.Cells.{Cells}
 use Rattle.stored_rows.specs.declared.refusal.RowRefusal.{RowRefusal}
-use Rattle.row_reading.specs.declared.row.RowRef.{RowRef}
-use Rattle.row_reading.specs.declared.row.Layout.{Layout}
-use Rattle.row_reading.specs.declared.checked.Rest.{Rest}
-use Rattle.stored_rows.specs.Field.{fields_of}
-use Rattle.row_types.specs.CellRef.{lent_cell}
-use Rattle.row_reading.specs.Plan.{IsPlan}
-use Rattle.row_reading.specs.File.{next_row, blocks_rows}
+use Rattle.stored_rows.specs.declared.refusal.RowRefusal.TheVariants.{Rest}
 use Rattle.stored_rows.specs.Rows.{rows_from, most_rows}
-
--- the row that is lent
-abbrev pub lent_row : RowRef → StoredRow
-lent_row row = record { id = row.id; last = row.last; cells = map lent_cell row.cells.items }
+use Rattle.row_reading.specs.declared.row.RowReader.{RowReader}
+use Rattle.row_reading.specs.Wanted.{row_of_cells}
+use Rattle.row_reading.specs.Reader.{IsReader, IsSlot}
+use Rattle.row_reading.specs.File.{row_at}
+use Rattle.row_reading.specs.Checking.{HaveIds}
 
 -- the row that is shown, and those behind it
 pub record Shown : Type 0 where
   pub row : Row
   pub left : List Row
 
--- ---- what is left of a file
+-- the rows that are left of a file, up to the first refusal
+abbrev pub rows_left : RowReader → TheRest → Stream StoredRow RowRefusal
+rows_left reader rest = left_of (row_at reader.layout.schema reader.columns.now) Rest rest
 
--- the rows that are left of the block that was begun
-abbrev pub rest_of_block : Layout → Rest → Result (List StoredRow) RowRefusal
-rest_of_block layout rest =
-    map_value (λ read. read.0)
-    (repeated (next_row layout.schema layout.columns.now rest.block.now) rest.left ([], rest.place))
-
--- the rows of the blocks behind it
-abbrev pub rows_behind : Layout → Rest → Result (List StoredRow) RowRefusal
-rows_behind layout rest = blocks_rows layout.schema layout.columns.now 1 rest.walk.left
-
--- the rows that are left of the file
-abbrev pub rest_of_file : Layout → Rest → List StoredRow
-rest_of_file layout rest = value_or [] (rest_of_block layout rest) ++ value_or [] (rows_behind layout rest)
-
--- what is left was checked
-pub record IsRest (layout : Layout) (rest : Rest) : Type 0 where
-  pub within : rest.place ≤ length rest.block.now
-  pub block : is_ok (rest_of_block layout rest) ≡ true
-  pub behind : is_ok (rows_behind layout rest) ≡ true
+-- the row that is in the slot
+abbrev pub row_in : Cells → StoredRow
+row_in slot = row_of_cells (map lent_cell slot.wanted.items)
 
 -- what is seen of rows of which so many were shown
-abbrev pub shown_of : Layout → Rest → Option ℤ → ℤ → ℕ → RowRef → Option ℤ → ℤ → Shown
-shown_of layout rest first sequence position row id last = record {
-  row = record { id = id; last = last; cells = map lent_cell row.cells.items };
-  left = rows_from first sequence position (rest_of_file layout rest);
+abbrev pub shown_of : RowReader → TheRest → Cells → Option ℤ → ℤ → ℕ → Option ℤ → ℤ → Shown
+shown_of reader rest slot first sequence position id last = record {
+  row = record { id = id; last = last; cells = (row_in slot).cells };
+  left = rows_from first sequence position (rows_left reader rest).objects;
 }
 
--- the rows that are left were checked, and the ids of all rows, where the file has a first one, are longs
-pub record IsChecked (layout : Layout) (rest : Rest) (first : Option ℤ) (position : ℕ) (row : RowRef) : Type 0 where
-  pub plan : IsPlan layout.columns.now (fields_of layout.schema) layout.steps.items
-  pub width : length row.cells.items ≡ length layout.columns.now
-  pub right : IsRest layout rest
-  pub few : position + length (rest_of_file layout rest) ≤ most_rows
-  pub ids : IfSome first (λ id. (id +ℤ pos (position + length (rest_of_file layout rest))) <ℤ pos (2 ^ 63))
+-- the rows that are left were checked, and have ids that are longs if the file has a first one
+pub record IsChecked (reader : RowReader) (rest : TheRest) (slot : Cells) (first : Option ℤ) (position : ℕ) : Type 0 where
+  pub ready : IsReady IsReader IsSlot reader rest slot
+  pub right : (rows_left reader rest).fault ≡ None
+  pub few : position + length (rows_left reader rest).objects ≤ most_rows
+  pub ids : HaveIds first (position + length (rows_left reader rest).objects)

@@ -11,7 +11,7 @@ use Rattle.schema_tree.specs.declared.schema.Schema.{out-Schema}
 use Rattle.stored_rows.specs.declared.refusal.RowRefusal.{RowRefusal}
 use Rattle.stored_rows.specs.declared.refusal.RowRefusal.TheVariants.{Kind as WrongKind}
 use Rattle.cell_reading.specs.Kind.{Nullable, nullable, kind_of}
-use Rattle.stored_rows.specs.Field.{fields_of}
+use Rattle.fields.specs.Wanted.{fields_of}
 use Rattle.row_reading.specs.File.{Opened, opened}
 
 -- the ids from this one on are the standard's own

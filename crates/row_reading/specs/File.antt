@@ -1,9 +1,9 @@
 -- The rows of a data file, or the first refusal in the order of the checks.
 -- Avro 1.11, "Object Container Files"; Iceberg spec, "Row Lineage".
-use Rattle.std.specs.Prelude.{ℕ, ◌+◌, ◌-◌, ◌^◌, ◌==◌, ℤ, pos, negsuc, ◌+ℤ◌, int_lt, List, [], ◌∷◌, ◌++◌, length}
+use Rattle.std.specs.Prelude.{ℕ, ◌+◌, ◌-◌, ◌^◌, ℤ, pos, ◌+ℤ◌, int_lt, List, [], ◌∷◌, length}
 use Rattle.std.specs.Prelude.{Option, Some, None, Result, Ok, Err, nat_lt, if◌then◌else◌}
 use Rattle.std.specs.Ordering.{int_eq}
-use Rattle.words.specs.Reading.{◌>>=◌, map_refusal, map_value, repeated}
+use Rattle.words.specs.Reading.{◌>>=◌, map_refusal}
 use Rattle.row_types.specs.declared.column.Column.{Column}
 use Rattle.row_types.specs.declared.row.Row.{Row}
 use Rattle.row_types.specs.declared.row.StoredRow.{StoredRow}
@@ -15,15 +15,17 @@ use Rattle.avro_container.specs.declared.container.Block.{Block}
 use Rattle.avro_container.specs.declared.container.Container.{Container}
 use Rattle.avro_container.specs.Header.{schema_key, bound_to}
 use Rattle.avro_container.specs.Container.{container_at}
+use Rattle.objects.specs.Blocks.{count_of, objects_of}
 use Rattle.stored_rows.specs.declared.refusal.RowRefusal.{RowRefusal}
 use Rattle.stored_rows.specs.declared.refusal.RowRefusal.TheVariants.{Rest, RecordCount, IdsSpent, Limit}
 use Rattle.stored_rows.specs.Refusal.{container_refusal, schema_refusal, datum_refusal}
-use Rattle.stored_rows.specs.Field.{fields_of, check_fields}
+use Rattle.fields.specs.Wanted.{fields_of}
+use Rattle.stored_rows.specs.Field.{check_fields}
 use Rattle.cell_reading.specs.Value.{values_of}
 use Rattle.stored_rows.specs.Row.{stored_row, checked_row}
 use Rattle.stored_rows.specs.Rows.{most_rows, rows_from}
 
--- ---- the rows of a block
+-- ---- a row
 
 -- a row at a place of a block's bytes, and the place after it
 unfoldable pub row_at : Schema → List Column → List ℕ → ℕ → Result (StoredRow × ℕ) RowRefusal
@@ -31,36 +33,6 @@ row_at schema columns input place = do
   read ← map_refusal datum_refusal (datum_at schema input (record { place = place; items = 0 }))
   row ← checked_row columns (stored_row columns (fields_of schema) (values_of read.0))
   Ok (row, read.1.place)
-
--- one row more, behind those before it
-abbrev pub next_row : Schema → List Column → List ℕ → List StoredRow × ℕ → Result (List StoredRow × ℕ) RowRefusal
-next_row schema columns input (rows, place) =
-    map_value (λ read. (rows ++ read.0 ∷ [], read.1)) (row_at schema columns input place)
-
--- a block has as many rows as it says, and no byte behind them
-abbrev pub ended : ℕ → List ℕ → List StoredRow × ℕ → Result (List StoredRow) RowRefusal
-ended number input (rows, place) = if place == length input then Ok rows else Err (Rest number)
-
--- how many rows a count says that there are; none has fewer than 0
-abbrev pub rows_told : ℤ → ℕ
-rows_told (pos count) = count
-rows_told (negsuc count) = 0
-
-abbrev pub count_of : Block → ℕ
-count_of block = rows_told block.count
-
--- the rows of a block, whose number counts from 1, behind those of the blocks before it
-unfoldable pub block_rows : Schema → List Column → ℕ → Block → Result (List StoredRow) RowRefusal
-block_rows schema columns number block =
-    repeated (next_row schema columns block.bytes) (count_of block) ([], 0) >>= ended number block.bytes
-
--- the rows of blocks, the first of which has the number
-unfoldable pub blocks_rows : Schema → List Column → ℕ → List Block → Result (List StoredRow) RowRefusal
-blocks_rows schema columns number [] = Ok []
-blocks_rows schema columns number (block ∷ blocks) = do
-  rows ← block_rows schema columns number block
-  others ← blocks_rows schema columns (number + 1) blocks
-  Ok (rows ++ others)
 
 -- ---- the checks of a file
 
@@ -102,7 +74,7 @@ unfoldable pub rows_in : List Column → Opened → Result (List StoredRow) RowR
 rows_in columns (container, schema) = do
   _ ← check_fields (fields_of schema) columns
   _ ← check_counts 0 container.blocks
-  blocks_rows schema columns 1 container.blocks
+  objects_of (row_at schema columns) Rest container.blocks
 
 -- the rows of a file for a table of these columns, with the file's first row id, its data sequence number and the
 -- number of rows that the caller says it has

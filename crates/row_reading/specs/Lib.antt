@@ -1,5 +1,5 @@
-pub mod Plan
-pub mod Planning
+pub mod Wanted
+pub mod Reader
 pub mod File
 pub mod Checking
 pub mod Checked

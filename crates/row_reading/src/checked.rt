@@ -1,57 +1,47 @@
 //! The rows of a file that was checked whole, shown one after the other.
 
-ghost use Rattle.std.specs.Prelude.{◌≡◌, ◌<◌, ◌^◌, ◌∷◌, List, [], length, map, Ok, IfOk};
+ghost use Rattle.std.specs.Prelude.{◌≡◌, ◌<◌, ◌≤◌, ◌^◌, ◌∷◌, List, [], length, map, Ok, IfOk, OnOk};
 ghost use Rattle.std.specs.Bool.{OnTrue, OnFalse};
 ghost use Rattle.words.specs.Reading.{Gives};
-ghost use Rattle.stored_rows.specs.Refusal.{is_memory};
 ghost use Rattle.row_types.specs.CellRef.{lent_cell};
 ghost use Rattle.row_types.specs.declared.row.StoredRow.{StoredRow as AStoredRow};
-ghost use Rattle.stored_rows.specs.Field.{fields_of};
-ghost use Rattle.row_reading.specs.Plan.{IsPlan};
-ghost use Rattle.row_reading.specs.File.{check_counts, rows_of};
-ghost use Rattle.stored_rows.specs.Rows.{rows_from};
-ghost use Rattle.row_reading.specs.Checking.{rows_of_blocks, rows_opened};
+ghost use Rattle.objects.specs.Blocks.{count_all};
+ghost use Rattle.objects.specs.Left.{IsReady};
+ghost use Rattle.fields.specs.Wanted.{fields_of};
+ghost use Rattle.stored_rows.specs.Refusal.{is_memory};
+ghost use Rattle.stored_rows.specs.Field.{check_fields};
+ghost use Rattle.stored_rows.specs.Rows.{most_rows, rows_from};
 ghost use Rattle.stored_rows.specs.Stored.{StoresRows, ReadsRows, AreRead};
-ghost use Rattle.row_reading.specs.declared.row.Layout.{Layout as ALayout};
-ghost use Rattle.row_reading.specs.Checked.{IsRest, rest_of_file};
+ghost use Rattle.row_reading.specs.Reader.{IsReader, IsSlot};
+ghost use Rattle.row_reading.specs.File.{check_counts, rows_of};
+ghost use Rattle.row_reading.specs.Checking.{check_before_rows, check_all_rows, AreRight};
+ghost use Rattle.row_reading.specs.Checking.{rows_in_blocks, rows_of_blocks, rows_opened};
+ghost use Rattle.row_reading.specs.Checked.{rows_left};
 
-use crate::block::rows_told;
-use crate::checking::{checked_layout, checked_row};
+use crate::counts::{check_counts, check_ids, check_told};
 use crate::law::reading_agrees;
 use crate::opening::open_file;
-use crate::row::{Layout, RowRef, take_row};
+use crate::row::{RowReader, own_cells, own_id, own_last, reader_of};
 use avro_container::Walk;
-use row_types::{CellRef, Columns};
+use fields::{fields_of, nulls};
+use objects::Objects;
+use row_types::{CellRef, Column, Columns};
 use schema_tree::Schema;
-use std::alloc::Global;
+use std::alloc::{AllocError, Global};
 use std::marker::Model;
-use stored_rows::{RowRefusal, row_id, row_last};
-
-/// What of a file was not shown.
-#[derive(Drop)]
-pub struct Rest<'a> {
-    /// The blocks that were not begun.
-    walk: Walk<'a>,
-    /// The bytes of the block that was, and where its next row begins.
-    block: &'a [u8],
-    place: usize,
-    /// How many rows of that block are left.
-    left: u64,
-}
+use stored_rows::{RowRefusal, check_fields, row_id, row_last};
 
 /// The rows of a file, all of which were checked, shown one after the other. Their texts and bytes
-/// are lent from the file, and showing one takes no memory. Contracts see the row that is shown,
-/// and the list of those behind it.
+/// are borrowed from the file, and showing one takes no memory. Contracts see the row that is
+/// shown, and the list of those behind it.
 #[derive(Drop)]
 pub struct CheckedRows<'a> {
-    layout: Layout<'a>,
-    rest: Rest<'a>,
+    rows: Objects<'a, RowReader<'a>>,
     first: Option<i64>,
     sequence: i64,
     /// How many rows were shown.
     position: u32,
-    /// The row that is shown, with its id and its last change.
-    row: RowRef<'a>,
+    /// The id and the last change of the row that is shown.
     id: Option<i64>,
     last: i64,
 }
@@ -61,9 +51,10 @@ impl<'a> Model for CheckedRows<'a> {
 
     ghost Value = { Shown };
 
-    ghost view = { λ r. shown_of r.layout r.rest r.first r.sequence r.position r.row r.id r.last };
+    ghost view = { λ r.
+        shown_of r.rows.reader r.rows.rest r.rows.slot r.first r.sequence r.position r.id r.last };
 
-    ghost invariant = { λ r. IsChecked r.layout r.rest r.first r.position r.row };
+    ghost invariant = { λ r. IsChecked r.rows.reader r.rows.rest r.rows.slot r.first r.position };
 }
 
 impl<'a> CheckedRows<'a> {
@@ -73,21 +64,11 @@ impl<'a> CheckedRows<'a> {
         ensures shown { OnTrue result (self.old.left ≡ self.new.row ∷ self.new.left) }
         ensures end { OnFalse result ((self.old.left ≡ []) × (self.new ≡ self.old)) }
     {
-        if !go_on(&mut self.rest) {
+        if !self.rows.advance_known() {
             return false;
         }
-        let Ok(after) = take_row(
-            &self.layout,
-            self.rest.block,
-            self.rest.place,
-            &mut self.row,
-        ) else {
-            return false;
-        };
-        self.rest.place = after;
-        self.rest.left -= 1;
-        self.id = row_id(self.first, self.row.id, self.position);
-        self.last = row_last(self.row.last, self.sequence);
+        self.id = row_id(self.first, own_id(self.rows.slot()), self.position);
+        self.last = row_last(own_last(self.rows.slot()), self.sequence);
         self.position += 1;
         true
     }
@@ -110,32 +91,13 @@ impl<'a> CheckedRows<'a> {
     pub fn cells(&self) -> &[CellRef<'a>]
         ensures { map lent_cell result.now ≡ self.now.row.cells }
     {
-        &self.row.cells
+        own_cells(self.rows.slot())
     }
-}
-
-/// Begins the next block that has a row, where this one has none left. It answers whether a row is
-/// left.
-fn go_on(rest: &mut Rest<'_>) -> bool
-    ensures same { (layout : ALayout) → IsRest layout rest.old → IsRest layout rest.new
-        × (rest_of_file layout rest.new ≡ rest_of_file layout rest.old) }
-    ensures some { OnTrue result (0 < rest.new.left) }
-    ensures none { OnFalse result ((rest.new.left ≡ 0) × (rest.new.walk.left ≡ [])) }
-{
-    while rest.left == 0 {
-        let Some((count, bytes)) = rest.walk.next() else {
-            return false;
-        };
-        rest.block = bytes;
-        rest.place = 0;
-        rest.left = rows_told(count);
-    }
-    true
 }
 
 /// Checks the file whole, for a table of these columns: its rows can be shown. `first`: the file's
-/// first row id, None where it has none. `sequence`: its data sequence number. `told`: how many rows
-/// the caller says that it has, None where it doesn't say.
+/// first row id, None if it has none. `sequence`: its data sequence number. `told`: how many rows
+/// the caller says that it has, None if it doesn't say.
 ///
 /// The order of the refusals: those of the container and of the schema; `MissingColumn`; `Kind` of a
 /// type; `Limit` of the rows; then, block by block, for each row its value and then `Kind` of a null,
@@ -175,7 +137,15 @@ fn check_all<'a>(
         (rows_of bytes.now columns.now first sequence told) }
 {
     let (walk, schema) = open_file(alloc, bytes)?;
-    check_opened(alloc, walk, schema, columns, first, sequence, told)
+    check_opened(
+        alloc,
+        walk,
+        schema,
+        columns.as_slice(),
+        first,
+        sequence,
+        told,
+    )
 }
 
 /// The rows of a file that was opened.
@@ -183,7 +153,7 @@ fn check_opened<'a>(
     alloc: Global,
     mut walk: Walk<'a>,
     schema: Schema,
-    columns: &'a Columns,
+    columns: &'a [Column],
     first: Option<i64>,
     sequence: i64,
     told: Option<i64>,
@@ -192,40 +162,107 @@ fn check_opened<'a>(
     ensures exact { Gives is_memory (λ rows. rows.left) result
         (rows_opened columns.now first sequence told (walk.entry.whole, schema)) }
 {
-    let layout = checked_layout(alloc, &mut walk, schema, columns)?;
-    show_checked(alloc, walk, layout, first, sequence, told)
+    let rows = check_before_rows(&mut walk, &schema, columns)?;
+    walk.restart();
+    let reader = reader_of(alloc, schema, columns)?;
+    show_checked(alloc, walk, reader, rows, first, sequence, told)
 }
 
-/// The rows of a file of which all was checked that comes before them.
+/// How many rows the blocks of the file say that they have, if the columns can be read from the
+/// file's fields, and a file may have so many rows.
+fn check_before_rows(
+    walk: &mut Walk<'_>,
+    schema: &Schema,
+    columns: &[Column],
+) -> Result<u64, RowRefusal>
+    ensures exact { Gives is_memory (λ _. tt) result
+        (check_before_rows columns.now schema.now walk.old.whole.blocks) }
+    ensures readable { OnOk result (check_fields (fields_of schema.now) columns.now ≡ Ok tt) }
+    ensures rows { IfOk result (λ rows.
+        (rows ≡ count_all walk.old.whole.blocks) × (rows ≤ most_rows)) }
+    ensures whole { walk.new.whole ≡ walk.old.whole }
+{
+    check_fields(fields_of(schema), columns)?;
+    walk.restart();
+    Ok(check_counts(walk)?)
+}
+
+/// The rows of a file of which all was checked that comes before them. `told_rows`: how many rows
+/// its blocks say that they have.
 fn show_checked<'a>(
     alloc: Global,
-    mut walk: Walk<'a>,
-    layout: Layout<'a>,
+    walk: Walk<'a>,
+    reader: RowReader<'a>,
+    told_rows: u64,
     first: Option<i64>,
     sequence: i64,
     told: Option<i64>,
 ) -> Result<CheckedRows<'a>, RowRefusal>
-    requires plan { IsPlan layout.columns.now (fields_of layout.schema) layout.steps.items }
-    requires counts { check_counts 0 walk.whole.blocks ≡ Ok tt }
+    requires right { IsReader reader }
+    requires start { walk.left ≡ walk.whole.blocks }
+    requires rows { (told_rows ≡ count_all walk.whole.blocks) × (told_rows ≤ most_rows) }
     requires fits { length walk.whole.blocks < 2 ^ 63 }
     ensures exact { Gives is_memory (λ rows. rows.left) result
-        (rows_of_blocks layout.entry.columns.now layout.entry.schema walk.entry.whole.blocks
+        (rows_of_blocks reader.entry.columns.now reader.entry.layout.schema walk.entry.whole.blocks
         first sequence told) }
 {
-    let row = checked_row(alloc, &layout, &mut walk, first, told)?;
+    let mut rows = rows_at_start(alloc, walk, reader)?;
+    check_all_rows(&mut rows, told_rows, first, told)?;
     Ok(CheckedRows {
-        layout,
-        rest: Rest {
-            walk,
-            block: &[],
-            place: 0,
-            left: 0,
-        },
+        rows,
         first,
         sequence,
         position: 0,
-        row,
         id: None,
         last: sequence,
     })
+}
+
+/// The rows of all blocks, of which none was read.
+fn rows_at_start<'a>(
+    alloc: Global,
+    walk: Walk<'a>,
+    reader: RowReader<'a>,
+) -> Result<Objects<'a, RowReader<'a>>, AllocError>
+    requires right { IsReader reader }
+    requires start { walk.left ≡ walk.whole.blocks }
+    requires fits { length walk.whole.blocks < 2 ^ 63 }
+    ensures ready { IfOk result (λ rows. IsReady IsReader IsSlot rows.reader rows.rest rows.slot) }
+    ensures left { IfOk result (λ rows. rows_left rows.reader rows.rest
+        ≡ rows_in_blocks rows.reader.columns.now rows.reader.layout.schema rows.rest.walk.whole.blocks) }
+    ensures reader { IfOk result (λ rows. rows.reader ≡ reader.entry) }
+    ensures whole { IfOk result (λ rows. rows.rest.walk.whole ≡ walk.entry.whole) }
+{
+    let slot = nulls(alloc, &reader.layout)?;
+    Ok(Objects::new(reader, walk, slot))
+}
+
+/// Whether all rows of the file are right, as many as the caller says, and with ids that end in
+/// time. None of them is shown then.
+fn check_all_rows<'a>(
+    rows: &mut Objects<'a, RowReader<'a>>,
+    told_rows: u64,
+    first: Option<i64>,
+    told: Option<i64>,
+) -> Result<(), RowRefusal>
+    requires ready { IsReady IsReader IsSlot rows.old.reader rows.old.rest rows.old.slot }
+    requires left { rows_left rows.old.reader rows.old.rest
+        ≡ rows_in_blocks rows.old.reader.columns.now rows.old.reader.layout.schema
+        rows.old.rest.walk.whole.blocks }
+    requires rows { (told_rows ≡ count_all rows.old.rest.walk.whole.blocks)
+        × (told_rows ≤ most_rows) }
+    requires fits { length rows.old.rest.walk.whole.blocks < 2 ^ 63 }
+    ensures exact { result ≡ check_all_rows rows.old.reader.columns.now
+        rows.old.reader.layout.schema rows.old.rest.walk.whole.blocks first told }
+    ensures ready { IsReady IsReader IsSlot rows.new.reader rows.new.rest rows.new.slot }
+    ensures left { OnOk result (rows_left rows.new.reader rows.new.rest
+        ≡ rows_left rows.old.reader rows.old.rest) }
+    ensures right { OnOk result (AreRight (rows_left rows.new.reader rows.new.rest) first) }
+    ensures reader { rows.new.reader ≡ rows.old.reader }
+{
+    rows.check()?;
+    check_told(told, told_rows)?;
+    check_ids(first, told_rows)?;
+    rows.restart();
+    Ok(())
 }

@@ -6,7 +6,8 @@ ghost use Rattle.schema_tree.specs.declared.schema.Field.{out-Field};
 ghost use Rattle.row_types.specs.Columns.{first_fault, has_name, has_wrong_name as wrong_name};
 ghost use Rattle.stored_rows.specs.Refusal.{is_memory};
 ghost use Rattle.cell_reading.specs.Kind.{nullable};
-ghost use Rattle.stored_rows.specs.Field.{find, fields_of};
+ghost use Rattle.fields.specs.Wanted.{fields_of};
+ghost use Rattle.stored_rows.specs.Field.{find};
 ghost use Rattle.row_reading.specs.File.{opened};
 ghost use Rattle.stored_rows.specs.Stored.{IsHeld};
 ghost use Rattle.row_reading.specs.Columns.{column_of_type, with_field, columns_from, checked, file_columns_of};
@@ -15,11 +16,12 @@ ghost use Rattle.row_reading.specs.Fault.{id_of};
 use crate::opening::open_file;
 use avro_container::Walk;
 use cell_reading::{kind_of, nullable};
+use fields::fields_of;
 use lists::Copied;
 use row_types::{Column, Columns, ColumnsRefusal};
 use schema_tree::{Field, Schema};
 use std::alloc::Global;
-use stored_rows::{RowRefusal, fields_of};
+use stored_rows::RowRefusal;
 
 /// The first id that is the standard's own. Iceberg spec, "Reserved Field IDs".
 const FIRST_RESERVED_ID: i32 = 2_147_483_448;

@@ -1,218 +1,176 @@
-//! One row, lent from the bytes of its file.
+//! A reader of one row, by the fields of its columns.
 
-ghost use Rattle.std.specs.Prelude.{◌≡◌, ◌≤◌, [], ◌∷◌, length, map, replicate, IfOk, None};
-ghost use Rattle.row_types.specs.declared.cell.Cell.TheVariants.{Null};
-ghost use Rattle.words.specs.Reading.{Gives, never};
-ghost use Rattle.datum_reading.specs.Readers.{readers_of};
-ghost use Rattle.datum_reading.specs.Reading.{fields_at, datum_at};
-ghost use Rattle.stored_rows.specs.Refusal.{datum_refusal};
-ghost use Rattle.row_types.specs.CellRef.{lent_cell};
-ghost use Rattle.cell_reading.specs.Form.{cell_read};
-ghost use Rattle.stored_rows.specs.Field.{fields_of as fields_in};
-ghost use Rattle.stored_rows.specs.Row.{stored_row, check_nulls};
-ghost use Rattle.row_reading.specs.Plan.{ReadsAs, IsWithin, IsAimed, IsPlan, with_cell, put_by, as_row, value_as_row};
+ghost use Rattle.std.specs.Prelude.{◌≡◌, ◌≤◌, length, map, Ok, IfOk};
+ghost use Rattle.row_types.specs.CellRef.{lent_cell, number_of};
+ghost use Rattle.objects.specs.Object.{Agrees};
+ghost use Rattle.fields.specs.Wanted.{fields_of};
+ghost use Rattle.stored_rows.specs.declared.refusal.RowRefusal.TheVariants.{Rest};
+ghost use Rattle.stored_rows.specs.Field.{check_fields};
+ghost use Rattle.stored_rows.specs.Stored.{StoresRow};
+ghost use Rattle.row_reading.specs.Wanted.{number_wanted, column_wanted, row_wanted, row_of_cells};
+ghost use Rattle.row_reading.specs.Wanted.{field_refusal};
+ghost use Rattle.row_reading.specs.Reader.{IsReader, IsSlot};
 ghost use Rattle.row_reading.specs.File.{row_at};
-ghost use Rattle.row_reading.specs.Checked.{lent_row};
 
-use crate::plan::{Step, Target};
-use cell_reading::take_cell;
-use datum_reading::{Cursor, DatumRefusal, skip};
-use row_types::{CellRef, Column};
-use schema_tree::{Field, Schema};
+use fields::{
+    Cells, FieldRefusal, Layout, Wanted, lay_out, pass_record, take_known_record, take_record,
+};
+use objects::Object;
+use row_types::{CellRef, Column, Kind, StoredRow};
+use schema_tree::Schema;
 use std::alloc::{AllocError, Global};
-use stored_rows::RowRefusal;
+use stored_rows::{LAST_UPDATED_FIELD, ROW_ID_FIELD, RowRefusal};
 
-/// A row as a data file holds it, lent from the bytes of the file.
+/// A reader of the rows of a file, for a table of these columns. Avro spec, "Records".
 #[derive(Drop)]
-pub struct RowRef<'a> {
-    /// The stored id. None: the file's first id and the row's position give it.
-    pub id: Option<i64>,
-    /// The stored sequence number of the last change. None: the file's entry gives it.
-    pub last: Option<i64>,
-    /// A cell for each column.
-    pub cells: Vec<CellRef<'a>>,
+pub struct RowReader<'t> {
+    pub columns: &'t [Column],
+    pub layout: Layout,
 }
 
-/// How the rows of a file are read for a table.
-#[derive(Drop)]
-pub struct Layout<'a> {
-    /// The table's columns.
-    pub columns: &'a [Column],
-    /// The file's schema.
-    pub schema: Schema,
-    /// What is done with the value of each field.
-    pub steps: Vec<Step>,
-}
+impl<'a, 't> Object<'a> for RowReader<'t> {
+    type Slot = Cells<'a>;
 
-/// A row of so many nulls.
-pub fn nulls<'a>(alloc: Global, width: usize) -> Result<RowRef<'a>, AllocError>
-    ensures { IfOk result (λ row. length row.cells.items ≡ width) }
-{
-    Ok(RowRef {
-        id: None,
-        last: None,
-        cells: vec![in alloc; CellRef::Null; width]?,
-    })
-}
+    type Value = StoredRow;
 
-/// Takes the row at `place` into `row`, and answers the place after it. Places count bytes from 0,
-/// from the start of the block's bytes. After a refusal the row has any cells. Avro spec, "Records".
-#[tactic(auto, unfolding(crate::specs::File::row_at))]
-pub fn take_row<'a>(
-    layout: &Layout<'_>,
-    input: &'a [u8],
-    place: usize,
-    row: &mut RowRef<'a>,
-) -> Result<usize, RowRefusal>
-    requires plan { IsPlan layout.now.columns.now
-        (fields_in layout.now.schema) layout.now.steps.items }
-    requires width { length row.old.cells.items ≡ length layout.now.columns.now }
-    requires start { place ≤ length input.now }
-    ensures exact { Gives never (λ after. (lent_row row.new, after)) result
-        (row_at layout.now.schema layout.now.columns.now input.now place) }
-    ensures width { length row.new.cells.items ≡ length row.old.cells.items }
-    ensures within { IfOk result (λ after. (place ≤ after) × (after ≤ length input.now)) }
-{
-    clear(row);
-    let start = Cursor { place, items: 0 };
-    let after = match take_values(layout, input, start, row) {
-        Ok(after) => after,
-        Err(refusal) => return Err(datum_refusal(refusal)),
-    };
-    check_nulls(layout.columns, &row.cells)?;
-    Ok(after.place)
-}
+    type Refusal = RowRefusal;
 
-/// Makes all of the row null.
-fn clear(row: &mut RowRef<'_>)
-    ensures width { length row.new.cells.items ≡ length row.old.cells.items }
-    ensures empty { lent_row row.new
-        ≡ record { id = None; last = None; cells = replicate (length row.old.cells.items) Null } }
-{
-    row.id = None;
-    row.last = None;
-    row.cells.fill(CellRef::Null);
-}
+    ghost at = { λ r. row_at r.layout.schema r.columns.now };
 
-/// Takes the values of the file's fields at the cursor into a row without any.
-fn take_values<'a>(
-    layout: &Layout<'_>,
-    input: &'a [u8],
-    at: Cursor,
-    row: &mut RowRef<'a>,
-) -> Result<Cursor, DatumRefusal>
-    requires plan { IsPlan layout.now.columns.now
-        (fields_in layout.now.schema) layout.now.steps.items }
-    requires width { length row.old.cells.items ≡ length layout.now.columns.now }
-    requires empty { lent_row row.old
-        ≡ stored_row layout.now.columns.now (fields_in layout.now.schema) [] }
-    requires start { at.place ≤ length input.now }
-    ensures exact { Gives never (λ after. (lent_row row.new, after)) result
-        (value_as_row layout.now.columns.now (fields_in layout.now.schema)
-        (datum_at layout.now.schema input.now at)) }
-    ensures width { length row.new.cells.items ≡ length row.old.cells.items }
-    ensures within { IfOk result (λ after.
-        (at.place ≤ after.place) × (after.place ≤ length input.now)) }
-{
-    match &layout.schema {
-        Schema::Rec { fields, .. } => take_fields(layout, fields.as_slice(), input, at, row),
-        schema => skip(schema, input, at),
+    ghost Spells = { λ r. StoresRow r.columns.now r.layout.schema };
+
+    ghost held = { λ s. row_of_cells (map lent_cell s.wanted.items) };
+
+    ghost right = { IsReader };
+
+    ghost fits = { IsSlot };
+
+    ghost rest = { Rest };
+
+    fn take(
+        &self,
+        input: &'a [u8],
+        place: usize,
+        slot: &mut Cells<'a>,
+    ) -> Result<usize, RowRefusal> {
+        match take_record(&self.layout, input, place, slot) {
+            Ok(after) => Ok(after),
+            Err(refusal) => Err(field_refusal(refusal)),
+        }
+    }
+
+    fn pass(&self, input: &'a [u8], place: usize) -> Result<usize, RowRefusal> {
+        match pass_record(&self.layout, input, place) {
+            Ok(after) => Ok(after),
+            Err(refusal) => Err(field_refusal(refusal)),
+        }
+    }
+
+    fn take_known(&self, input: &'a [u8], place: usize, slot: &mut Cells<'a>) -> usize {
+        take_known_record(&self.layout, input, place, slot)
+    }
+
+    fn rest_in(&self, block: u64) -> RowRefusal
+        ensures { result ≡ Rest block }
+    {
+        RowRefusal::Rest { block }
+    }
+
+    fn agrees(&self)
+        ensures { Agrees (row_at self.now.layout.schema self.now.columns.now)
+            (StoresRow self.now.columns.now self.now.layout.schema) }
+    {
+        datum_reading::reading_agrees();
     }
 }
 
-/// Takes the value of each field, one behind the other.
-fn take_fields<'a>(
-    layout: &Layout<'_>,
-    fields: &[Field],
-    input: &'a [u8],
-    at: Cursor,
-    row: &mut RowRef<'a>,
-) -> Result<Cursor, DatumRefusal>
-    requires plan { IsPlan layout.now.columns.now fields.now layout.now.steps.items }
-    requires width { length row.old.cells.items ≡ length layout.now.columns.now }
-    requires empty { lent_row row.old ≡ stored_row layout.now.columns.now fields.now [] }
-    requires start { at.place ≤ length input.now }
-    ensures exact { Gives never (λ after. (lent_row row.new, after)) result
-        (as_row layout.now.columns.now fields.now
-        (fields_at (readers_of fields.now) [] input.now at)) }
-    ensures width { length row.new.cells.items ≡ length row.old.cells.items }
-    ensures within { IfOk result (λ after.
-        (at.place ≤ after.place) × (after.place ≤ length input.now)) }
-{
-    let mut at = at;
-    for place in 0..fields.len() {
-        at = take_step(layout.steps[place], &fields[place].schema, input, at, row)?;
-    }
-    Ok(at)
-}
-
-/// Takes the value of one field.
-fn take_step<'a>(
-    step: Step,
-    schema: &Schema,
-    input: &'a [u8],
-    at: Cursor,
-    row: &mut RowRef<'a>,
-) -> Result<Cursor, DatumRefusal>
-    requires reads { ReadsAs step schema.now }
-    requires target { IsAimed (length row.old.cells.items) step }
-    requires start { at.place ≤ length input.now }
-    ensures exact { Gives never (λ after. (lent_row row.new, after)) result
-        (put_by step (lent_row row.old) (cell_read schema.now input.now at)) }
-    ensures width { length row.new.cells.items ≡ length row.old.cells.items }
-    ensures within { IfOk result (λ after.
-        (at.place ≤ after.place) × (after.place ≤ length input.now)) }
-{
-    let Step::Take { target, form } = step else {
-        return skip(schema, input, at);
-    };
-    let (cell, after) = take_cell(form, input, at)?;
-    put_cell(target, cell, row);
-    Ok(after)
-}
-
-/// Puts the cell where the target is.
-fn put_cell<'a>(target: Target, cell: CellRef<'a>, row: &mut RowRef<'a>)
-    requires { IsWithin (length row.old.cells.items) target }
-    ensures put { lent_row row.new ≡ with_cell target (lent_cell cell.entry) (lent_row row.old) }
-    ensures width { length row.new.cells.items ≡ length row.old.cells.items }
-{
-    match target {
-        Target::Cell(index) => row.cells[index] = cell,
-        Target::RowId => row.id = cell.number(),
-        Target::LastUpdated => row.last = cell.number(),
-    }
-}
-
-/// Whether no required column has a null.
-#[tactic(auto, using(crate::proofs::RowLemmas::null_steps))]
-fn check_nulls(columns: &[Column], cells: &[CellRef<'_>]) -> Result<(), RowRefusal>
-    requires { length cells.now ≡ length columns.now }
-    ensures { result ≡ check_nulls columns.now (map lent_cell cells.now) }
-{
-    for index in 0..columns.len() {
-        check_null(&columns[index], cells[index])?;
-    }
-    Ok(())
-}
-
-/// Whether the cell is no null where the column is required.
-#[tactic(auto, unfolding(stored_rows::specs::Row::check_nulls))]
-fn check_null(column: &Column, cell: CellRef<'_>) -> Result<(), RowRefusal>
-    ensures { result ≡ check_nulls (column.now ∷ []) (lent_cell cell.entry ∷ []) }
-{
-    if column.required && cell.is_null() {
-        return Err(RowRefusal::Kind { id: column.id });
-    }
-    Ok(())
-}
-
-/// What a refusal of a row's bytes is called.
-fn datum_refusal(refusal: DatumRefusal) -> RowRefusal
-    ensures { result ≡ datum_refusal refusal }
+/// What a refusal of a record is called.
+fn field_refusal(refusal: FieldRefusal) -> RowRefusal
+    ensures { result ≡ field_refusal refusal }
 {
     match refusal {
-        DatumRefusal::Memory => RowRefusal::Memory,
-        refusal => RowRefusal::Datum(refusal),
+        FieldRefusal::MissingField { id } => RowRefusal::Kind { id },
+        FieldRefusal::NoValue(refusal) => RowRefusal::Datum(refusal),
+        FieldRefusal::Memory => RowRefusal::Memory,
     }
+}
+
+/// A reader of the rows of a file with the schema, which has what the columns need.
+pub fn reader_of<'t>(
+    alloc: Global,
+    schema: Schema,
+    columns: &'t [Column],
+) -> Result<RowReader<'t>, AllocError>
+    requires readable { check_fields (fields_of schema) columns.now ≡ Ok tt }
+    ensures right { IfOk result IsReader }
+    ensures schema { IfOk result (λ reader. reader.layout.schema ≡ schema) }
+    ensures columns { IfOk result (λ reader. reader.columns.now ≡ columns.now) }
+{
+    let wanted = row_wanted(alloc, columns)?;
+    match lay_out(alloc, schema, wanted) {
+        Ok(layout) => Ok(RowReader { columns, layout }),
+        Err(_) => Err(AllocError),
+    }
+}
+
+/// All that is wanted of a record: the id, the last change, and then each column.
+fn row_wanted(alloc: Global, columns: &[Column]) -> Result<Vec<Wanted>, AllocError>
+    ensures { IfOk result (λ wanted. wanted.items ≡ row_wanted columns.now) }
+{
+    let mut wanted = Vec::new(alloc);
+    wanted.push(number_wanted(ROW_ID_FIELD))?;
+    wanted.push(number_wanted(LAST_UPDATED_FIELD))?;
+    for column in columns {
+        wanted.push(column_wanted(column))?;
+    }
+    Ok(wanted)
+}
+
+/// A field of longs, which may be missing.
+fn number_wanted(id: i32) -> Wanted
+    ensures { result ≡ number_wanted id }
+{
+    Wanted {
+        parent: None,
+        id,
+        kind: Kind::Long,
+        required: false,
+    }
+}
+
+/// The field of a column.
+fn column_wanted(column: &Column) -> Wanted
+    ensures { result ≡ column_wanted column.now }
+{
+    Wanted {
+        parent: None,
+        id: column.id,
+        kind: column.kind,
+        required: column.required,
+    }
+}
+
+/// The id that the row has of its own.
+pub fn own_id(cells: &Cells<'_>) -> Option<i64>
+    requires { 2 ≤ length cells.now.wanted.items }
+    ensures { result ≡ (row_of_cells (map lent_cell cells.now.wanted.items)).id }
+{
+    cells.wanted[0].number()
+}
+
+/// The last change that the row has of its own.
+pub fn own_last(cells: &Cells<'_>) -> Option<i64>
+    requires { 2 ≤ length cells.now.wanted.items }
+    ensures { result ≡ (row_of_cells (map lent_cell cells.now.wanted.items)).last }
+{
+    cells.wanted[1].number()
+}
+
+/// The cells of the row, one for each column.
+pub fn own_cells<'c, 'a>(cells: &'c Cells<'a>) -> &'c [CellRef<'a>]
+    requires { 2 ≤ length cells.now.wanted.items }
+    ensures { map lent_cell result.now
+        ≡ (row_of_cells (map lent_cell cells.now.wanted.items)).cells }
+{
+    &cells.wanted[2..]
 }

@@ -15,7 +15,8 @@ use Rattle.datum_tree.specs.Spelling.{IsEncoding}
 use Rattle.datum_writing.specs.Canonical.{canonical}
 use Rattle.avro_container.specs.declared.container.Block.{Block}
 use Rattle.avro_container.specs.Writing.{IsWritable}
-use Rattle.stored_rows.specs.Stored.{StoresRow, StoresBlock, StoresBlocks}
+use Rattle.objects.specs.Held.{HoldsBlock, Hold}
+use Rattle.stored_rows.specs.Stored.{StoresRow}
 use Rattle.row_writing.specs.Writing.{file_schema, row_datum, kept, block_size, block_of, blocks_of, file_container}
 use Rattle.row_writing.proofs.WrittenRows.{row_stored, no_null}
 
@@ -63,11 +64,11 @@ module _ (columns : List Column) (lineage : Bool) (are : IsColumns columns) wher
   }
 
   -- a block stores its rows
-  block_stored : (rows : List StoredRow) → All (IsRight columns lineage) rows → StoresBlock columns (file_schema columns lineage) (map (kept lineage) rows) (block_of columns lineage rows)
-  block_stored rows right = (ap pos (sym (length-map rows (kept lineage))), rows_bytes rows right)
+  block_stored : (rows : List StoredRow) → All (IsRight columns lineage) rows → HoldsBlock (StoresRow columns (file_schema columns lineage)) (map (kept lineage) rows) (block_of columns lineage rows)
+  block_stored rows right = record { many = sym (length-map rows (kept lineage)); spelled = rows_bytes rows right }
 
   -- and blocks theirs
-  blocks_from : (tries : ℕ) (rows : List StoredRow) → length rows ≤ tries → All (IsRight columns lineage) rows → StoresBlocks columns (file_schema columns lineage) (blocks_of tries columns lineage rows) (map (kept lineage) rows)
+  blocks_from : (tries : ℕ) (rows : List StoredRow) → length rows ≤ tries → All (IsRight columns lineage) rows → Hold (StoresRow columns (file_schema columns lineage)) (blocks_of tries columns lineage rows) (map (kept lineage) rows)
   unfolding blocks_of
   blocks_from zero [] few right = refl
   blocks_from zero (row ∷ rows) few right = absurd (omega arith)
@@ -83,7 +84,7 @@ module _ (columns : List Column) (lineage : Bool) (are : IsColumns columns) wher
 -- the blocks that are written store the rows, as they are kept
 pub blocks_stored : (columns : List Column) (lineage : Bool) (rows : List StoredRow) → IsColumns columns → All (λ (row : StoredRow). fits_row columns row.cells ≡ true) rows
     → All (λ (row : StoredRow). IsEncoding (file_schema columns lineage) (row_datum columns lineage row) (canonical (file_schema columns lineage) (row_datum columns lineage row))) rows
-    → StoresBlocks columns (file_schema columns lineage) (blocks_of (length rows) columns lineage rows) (map (kept lineage) rows)
+    → Hold (StoresRow columns (file_schema columns lineage)) (blocks_of (length rows) columns lineage rows) (map (kept lineage) rows)
 blocks_stored columns lineage rows are fit encoded =
     blocks_from columns lineage are (length rows) rows (omega arith) (λ k d within. record { fit = fit k d within; encoded = encoded k d within })
 

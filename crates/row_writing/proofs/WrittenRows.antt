@@ -16,7 +16,8 @@ use Rattle.datum_tree.specs.declared.datum.Datum.{Datum, out-Datum, roll-Datum, 
 use Rattle.datum_tree.specs.declared.datum.Datum.TheOpen as layers
 use Rattle.datum_tree.specs.declared.datum.Datum.TheVariants as datums
 use Rattle.datum_tree.specs.Value.{Level}
-use Rattle.stored_rows.specs.Field.{is_this, find_from, fields_of, row_id_field, last_updated_field}
+use Rattle.fields.specs.Wanted.{fields_of}
+use Rattle.stored_rows.specs.Field.{is_this, find_from, row_id_field, last_updated_field}
 use Rattle.row_types.specs.CellRef.{is_null, number_of}
 use Rattle.cell_reading.specs.Value.{plain_cell, cell_of_level, cell_of, values_of_level, values_of}
 use Rattle.stored_rows.specs.Row.{cell_at, cell_with}

@@ -18,7 +18,8 @@ use Rattle.schema_tree.specs.declared.schema.Schema.TheVariants as schemas
 use Rattle.schema_tree.specs.declared.schema.Field.{Field, out-Field}
 use Rattle.schema_tree.specs.declared.schema.Logical.TheVariants.{Plain, Date, TimeMicros, StampMicros, StampMicrosUtc}
 use Rattle.cell_reading.specs.Kind.{Level, is_null, nullable_level, beside_null, holds, is_allowed_as, is_allowed}
-use Rattle.stored_rows.specs.Field.{Found, is_this, find_from, find, fields_of, fields_of_level, row_id_field}
+use Rattle.fields.specs.Wanted.{fields_of, fields_of_level}
+use Rattle.stored_rows.specs.Field.{Found, is_this, find_from, find, row_id_field}
 use Rattle.stored_rows.specs.Field.{last_updated_field}
 use Rattle.stored_rows.specs.Stored.{IsThere, HoldsLongs, AreReadable}
 use Rattle.row_writing.specs.Writing.{written_type, optional_type, file_schema, column_field, lineage_fields}

@@ -7,12 +7,11 @@ use Rattle.words.specs.Reading.{◌>>=◌}
 use Rattle.row_types.specs.declared.column.Column.{Column}
 use Rattle.row_types.specs.declared.column.Kind.{Kind}
 use Rattle.row_types.specs.declared.column.Kind.TheVariants as kinds
-use Rattle.schema_tree.specs.declared.schema.Schema.{Schema, out-Schema}
-use Rattle.schema_tree.specs.declared.schema.Schema.TheOpen.{Rec}
+use Rattle.schema_tree.specs.declared.schema.Schema.{Schema}
 use Rattle.schema_tree.specs.declared.schema.Field.{Field, out-Field}
 use Rattle.stored_rows.specs.declared.refusal.RowRefusal.{RowRefusal}
 use Rattle.stored_rows.specs.declared.refusal.RowRefusal.TheVariants.{MissingColumn, Kind as WrongKind}
-use Rattle.cell_reading.specs.Kind.{Level, is_allowed}
+use Rattle.cell_reading.specs.Kind.{is_allowed}
 
 -- the ids of the lineage columns: a row's id, and the sequence number of its last change
 abbrev pub row_id_field : ℤ
@@ -20,14 +19,6 @@ row_id_field = pos 2147483540
 
 abbrev pub last_updated_field : ℤ
 last_updated_field = pos 2147483539
-
--- the fields of a file's schema; one that is no record has none
-abbrev pub fields_of_level : Level → List Field
-fields_of_level (Rec name fields) = fields
-fields_of_level _ = []
-
-abbrev pub fields_of : Schema → List Field
-fields_of schema = fields_of_level (out-Schema schema)
 
 -- the id is there, and it is this one
 abbrev pub is_this : ℤ → Option ℤ → Bool

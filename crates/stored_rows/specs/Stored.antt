@@ -1,25 +1,25 @@
 -- Which rows a data file stores, whatever reads it: the promise of a reader of rows.
 -- Avro 1.11, "Object Container Files"; Iceberg spec, "Column Projection", "Row Lineage".
-use Rattle.std.specs.Prelude.{◌≡◌, ℕ, ◌≤◌, ◌^◌, ◌-◌, ℤ, pos, ◌+ℤ◌, ◌≤ℤ◌, true, false, List, [], ◌∷◌, ◌++◌, length}
+use Rattle.std.specs.Prelude.{◌≡◌, ℕ, ◌≤◌, ◌^◌, ◌-◌, ℤ, pos, ◌+ℤ◌, ◌≤ℤ◌, true, false, List, [], ◌∷◌}
 use Rattle.std.specs.Prelude.{All, Option, Some, None, IfSome}
 use Rattle.row_types.specs.declared.cell.Cell.{Cell}
 use Rattle.row_types.specs.declared.column.Column.{Column}
 use Rattle.row_types.specs.declared.column.Kind.TheVariants as kinds
 use Rattle.row_types.specs.declared.row.Row.{Row}
 use Rattle.row_types.specs.declared.row.StoredRow.{StoredRow}
-use Rattle.avro_wire.specs.Blocks.{SpellsItems}
 use Rattle.schema_tree.specs.declared.schema.Schema.{Schema}
 use Rattle.schema_tree.specs.declared.schema.Field.{Field}
 use Rattle.avro_schema.specs.Meaning.{IsSchemaText}
 use Rattle.datum_tree.specs.declared.datum.Datum.{Datum}
 use Rattle.datum_tree.specs.Spelling.{IsEncoding}
-use Rattle.avro_container.specs.declared.container.Block.{Block}
 use Rattle.avro_container.specs.declared.container.Container.{Container}
 use Rattle.avro_container.specs.Header.{schema_key, bound_to}
 use Rattle.avro_container.specs.Container.{most_bytes}
 use Rattle.avro_container.specs.Format.{IsContainer}
+use Rattle.objects.specs.Held.{Hold}
 use Rattle.cell_reading.specs.Kind.{is_allowed}
-use Rattle.stored_rows.specs.Field.{Found, find, fields_of, row_id_field, last_updated_field}
+use Rattle.fields.specs.Wanted.{fields_of}
+use Rattle.stored_rows.specs.Field.{Found, find, row_id_field, last_updated_field}
 use Rattle.row_types.specs.CellRef.{is_null}
 use Rattle.cell_reading.specs.Value.{values_of}
 use Rattle.stored_rows.specs.Row.{stored_row}
@@ -63,25 +63,6 @@ pub record StoresRow (columns : List Column) (schema : Schema) (row : StoredRow)
   pub stored : row ≡ stored_row columns (fields_of schema) (values_of datum)
   pub nulls : HasNoNull columns row.cells
 
--- a block has as many rows as it says, one behind the other, and no byte more
-abbrev pub StoresBlock : List Column → Schema → List StoredRow → Block → Type 0
-StoresBlock columns schema rows block =
-    (block.count ≡ pos (length rows)) × SpellsItems (StoresRow columns schema) rows block.bytes
-
--- the rows of one block, and those of the others behind it
-pub record StoresMore (First Others : List StoredRow → Type 0) (rows : List StoredRow) : Type 0 where
-  pub front : List StoredRow
-  pub rest : List StoredRow
-  pub parts : rows ≡ front ++ rest
-  pub first : First front
-  pub others : Others rest
-
--- the rows of blocks, in their order
-abbrev pub StoresBlocks : List Column → Schema → List Block → List StoredRow → Type 0
-StoresBlocks columns schema [] rows = rows ≡ []
-StoresBlocks columns schema (block ∷ blocks) rows =
-    StoresMore (λ front. StoresBlock columns schema front block) (StoresBlocks columns schema blocks) rows
-
 -- the file stores these rows, for a table of these columns
 pub record StoresRows (bytes : List ℕ) (columns : List Column) (rows : List StoredRow) : Type 0 where
   pub container : Container
@@ -91,7 +72,7 @@ pub record StoresRows (bytes : List ℕ) (columns : List Column) (rows : List St
   pub bound : bound_to container.meta schema_key ≡ Some text
   pub written : IsSchemaText text schema
   pub readable : AreReadable columns (fields_of schema)
-  pub blocks : StoresBlocks columns schema container.blocks rows
+  pub blocks : Hold (StoresRow columns schema) container.blocks rows
 
 -- ---- what is read
 

@@ -2,7 +2,7 @@
 
 ghost use Rattle.std.specs.Prelude.{◌≡◌, ◌<◌, length, IfSome, MatchOption};
 ghost use Rattle.std.specs.declared.option.Option.TheVariants.{None, Some};
-ghost use Rattle.stored_rows.specs.Field.{fields_of, is_this, find, is_missing, is_wrong, check_missing, check_kind, check_kinds, check_fields};
+ghost use Rattle.stored_rows.specs.Field.{is_this, find, is_missing, is_wrong, check_missing, check_kind, check_kinds, check_fields};
 
 use crate::refusal::RowRefusal;
 use cell_reading::is_allowed;
@@ -14,16 +14,6 @@ pub const ROW_ID_FIELD: i32 = 2_147_483_540;
 
 /// The id of the column of the sequence numbers of last changes.
 pub const LAST_UPDATED_FIELD: i32 = 2_147_483_539;
-
-/// The fields of a file's schema. One that is no record has none.
-pub fn fields_of(schema: &Schema) -> &[Field]
-    ensures { result.now ≡ fields_of schema.now }
-{
-    match schema {
-        Schema::Rec { fields, .. } => fields.as_slice(),
-        _ => &[],
-    }
-}
 
 /// The first field with the id: its place, counted from 0, and its type. None: no field has it.
 ///

@@ -11,6 +11,6 @@ mod field;
 mod lineage;
 mod refusal;
 
-pub use field::{LAST_UPDATED_FIELD, ROW_ID_FIELD, check_fields, fields_of, find};
+pub use field::{LAST_UPDATED_FIELD, ROW_ID_FIELD, check_fields, find};
 pub use lineage::{row_id, row_last};
 pub use refusal::RowRefusal;

@@ -1,38 +1,34 @@
-use Rattle.std.proofs.Common.{sym, ap, ◌∙◌, rules, SFits}
+use Rattle.std.proofs.Common.{◌≡◌, sym, ap, ◌∙◌, rules, SFits}
+use Rattle.std.specs.Prelude.{ℤ, Option}
 use Rattle.std.specs.Int.{w64}
 use Rattle.std.proofs.lemmas.Int.{to_z-of_z}
-use Rattle.row_reading.specs.Checked.{Shown, lent_row}
-use Rattle.row_reading.proofs.RestLemmas.{row_went, never_refused}
-use Rattle.row_reading.proofs.BegunLemmas.{none_left}
-use Rattle.row_reading.proofs.ShownLemmas.{none_seen, row_shown, next_checked}
+use Rattle.fields.specs.declared.taking.Cells.{Cells}
+use Rattle.stored_rows.specs.Row.{row_id_of, row_last_of}
+use Rattle.row_reading.specs.Checked.{Shown, rows_left, row_in}
+use Rattle.row_reading.proofs.ShownLemmas.{none_seen, row_shown}
 use Rattle.row_reading.proofs.checked.CheckedRows.advance.Goals as goal
 
-pub returns-then-not-go_on-clause-end : goal.returns-then-not-go_on-clause-end
-returns-then-not-go_on-clause-end c =
-    let same = c.go_on.ensures.same c.self.inside.layout c.self.invariant.right in
-    let none = none_left c.self.inside.layout c.go_on.new.rest c.if-not-go_on.ensures.none.0 c.if-not-go_on.ensures.none.1 in
-    none_seen c.self.inside.layout c.self.inside.rest c.go_on.new.rest c.self.inside.first c.self.inside.sequence c.self.inside.position c.self.inside.row c.self.inside.id c.self.inside.last c.args.self.now c.self.view_is same.1 none
-
-pub returns-in_default-clause-end : goal.returns-in_default-clause-end
-returns-in_default-clause-end c =
-    let same = c.go_on.ensures.same c.self.inside.layout c.self.invariant.right in
-    absurd (never_refused c.self.inside.layout c.go_on.new.rest c.in_default.field-0 same.0 c.if-not-go_on.ensures.some c.in_default.ensures.exact)
-
-pub invariant_of-self-2 : goal.invariant_of-self-2
-invariant_of-self-2 c =
-    let same = c.go_on.ensures.same c.self.inside.layout c.self.invariant.right in
-    let went = row_went c.self.inside.layout c.go_on.new.rest (lent_row c.take_row.new.row) c.in-Ok.after same.0 c.if-not-go_on.ensures.some c.in-Ok.ensures.within.1 c.in-Ok.ensures.exact in
-    next_checked c.self.inside.layout c.self.inside.rest _ c.self.inside.first c.self.inside.position c.self.inside.row c.take_row.new.row (lent_row c.take_row.new.row) c.self.invariant went.0 (sym same.1 ∙ went.1) c.in-Ok.ensures.width
+pub returns-then-not-advance_known-clause-end : goal.returns-then-not-advance_known-clause-end
+returns-then-not-advance_known-clause-end c =
+    let seen = c.self.inside in
+    let after = c.advance_known.new.self in
+    let ended = c.if-not-advance_known.ensures in
+    none_seen seen.rows.reader after.reader seen.rows.rest after.rest seen.rows.slot after.slot seen.first seen.sequence seen.position seen.id
+    seen.last c.args.self.now c.self.view_is ended.end.0 ended.end.1 ended.slot
 
 pub returns-clause-shown : goal.returns-clause-shown
 returns-clause-shown c =
-    let same = c.go_on.ensures.same c.self.inside.layout c.self.invariant.right in
-    let went = row_went c.self.inside.layout c.go_on.new.rest (lent_row c.take_row.new.row) c.in-Ok.after same.0 c.if-not-go_on.ensures.some c.in-Ok.ensures.within.1 c.in-Ok.ensures.exact in
+    let seen = c.self.inside in
+    let after = c.advance_known.new.self in
+    let row = row_in after.slot in
     let fits : SFits w64 c.row_last-self-inside.result = search rules in
-    let wide : SFits w64 c.self.inside.sequence = search rules in
-    let last = simp to_z-of_z at c.row_last-self-inside.ensures in
-    let shown = row_shown c.self.inside.first c.self.inside.sequence c.self.inside.position _ c.take_row.new.row _ c.row_id-self-inside.result c.row_last-self-inside.result (sym same.1 ∙ went.1) c.row_id-self-inside.ensures last in
-    simp to_z-of_z (sym (ap (λ (shown : Shown). shown.left) c.self.view_is) ∙ shown)
-
-pub returns-clause-end : goal.returns-clause-end
-returns-clause-end c = tt
+    let wide : SFits w64 seen.sequence = search rules in
+    let own_id = c.own_id.ensures ∙ ap (λ (s : Cells). (row_in s).id) c.slot.ensures in
+    let own_last = c.own_last.ensures ∙ ap (λ (s : Cells). (row_in s).last) c.slot-2.ensures in
+    let id = c.row_id-self-inside.ensures ∙ ap (λ (o : Option ℤ). row_id_of seen.first o seen.position) own_id in
+    let told = simp to_z-of_z at c.row_last-self-inside.ensures in
+    let last = told ∙ ap (λ (o : Option ℤ). row_last_of o seen.sequence) own_last in
+    let shown = row_shown seen.first seen.sequence seen.position (rows_left seen.rows.reader seen.rows.rest).objects row
+    (rows_left after.reader after.rest).objects c.row_id-self-inside.result c.row_last-self-inside.result
+    c.if-not-advance_known.ensures.shown id last in
+    simp to_z-of_z (sym (ap (λ (s : Shown). s.left) c.self.view_is) ∙ shown)

@@ -1,0 +1,279 @@
+-- A row is read as the record of the fields that are wanted for its columns.
+use Rattle.std.proofs.Common.{◌≡◌, ℕ, ◌+◌, ◌≤◌, true, false, List, [], ◌∷◌, length, map, Ok, Err, refl, sym, ap, subst}
+use Rattle.std.proofs.Common.{◌∙◌, inl, inr, arith}
+use Rattle.std.specs.Prelude.{ℤ, Bool, ◌&&◌, All, Option, Some, None, IfSome, Result, is_ok, if◌then◌else◌}
+use Rattle.std.proofs.lemmas.Bool.{cases_Bool}
+use Rattle.std.proofs.lemmas.List.{length-map}
+use Rattle.std.proofs.lemmas.List.Elements.{All-head, All-tail}
+use Rattle.std.specs.Ordering.{int_eq}
+use Rattle.words.specs.Reading.{◌>>=◌, map_refusal, map_value, Gives, never}
+use Rattle.row_types.specs.declared.cell.Cell.{Cell}
+use Rattle.row_types.specs.CellRef.{is_null}
+use Rattle.row_types.specs.declared.column.Column.{Column}
+use Rattle.row_types.specs.declared.column.Kind.{Kind}
+use Rattle.row_types.specs.declared.column.Kind.TheVariants as kinds
+use Rattle.row_types.specs.declared.row.StoredRow.{StoredRow}
+use Rattle.schema_tree.specs.declared.schema.Schema.{Schema}
+use Rattle.schema_tree.specs.declared.schema.Field.{Field, out-Field}
+use Rattle.datum_tree.specs.declared.datum.Datum.{Datum}
+use Rattle.datum_reading.specs.declared.cursor.Cursor.{Cursor}
+use Rattle.datum_reading.specs.declared.refusal.DatumRefusal.{DatumRefusal}
+use Rattle.datum_reading.specs.declared.refusal.DatumRefusal.TheVariants as datums
+use Rattle.datum_reading.specs.Reading.{datum_at}
+use Rattle.cell_reading.specs.Kind.{is_allowed}
+use Rattle.cell_reading.specs.Value.{values_of}
+use Rattle.fields.specs.declared.leaf.Leaf.{Leaf}
+use Rattle.fields.specs.declared.taking.Cells.{Cells}
+use Rattle.fields.specs.declared.wanted.Wanted.{Wanted}
+use Rattle.fields.specs.declared.refusal.FieldRefusal.{FieldRefusal}
+use Rattle.fields.specs.Flat.{inner_leaf}
+use Rattle.fields.specs.Wanted.{fields_of, is_id, source_as, source, cells_with, wanted_of}
+use Rattle.fields.specs.Wanted.{find_from as leaf_from, cell_at as leaf_cell, check_nulls as wanted_nulls}
+use Rattle.fields.specs.AloneLaws.{AreOuter, wanted_alone}
+use Rattle.fields.specs.Record.{record_at, passed_at, start, checked}
+use Rattle.fields.specs.Record.{datum_refusal as record_refusal}
+use Rattle.objects.specs.Object.{place_behind}
+use Rattle.stored_rows.specs.declared.refusal.RowRefusal.{RowRefusal}
+use Rattle.stored_rows.specs.Refusal.{datum_refusal}
+use Rattle.stored_rows.specs.Field.{Found, is_this, find_from, find, row_id_field, last_updated_field}
+use Rattle.stored_rows.specs.Stored.{IsThere, AreReadable}
+use Rattle.stored_rows.specs.Row.{cell_at, cell_with, stored_row, check_nulls, checked_row}
+use Rattle.row_reading.specs.declared.row.RowReader.{RowReader}
+use Rattle.row_reading.specs.Wanted.{number_wanted, column_wanted, row_wanted, row_of_cells, field_refusal}
+use Rattle.row_reading.specs.Reader.{IsReader, IsSlot}
+use Rattle.row_reading.specs.File.{row_at}
+
+-- ---- the field of an id
+
+and_true : (b : Bool) → (b && true) ≡ b
+and_true true = refl
+and_true false = refl
+
+id_same : (id : ℤ) (there : Option ℤ) → (is_id (Some id) there && true) ≡ is_this id there
+id_same id None = refl
+id_same id (Some other) = and_true (int_eq other id)
+
+-- a field of the outer record that is wanted
+abbrev outer : ℤ → Kind → Bool → Wanted
+outer id kind required = record { parent = None; id = id; kind = kind; required = required }
+
+-- the same field is found for an id
+find_same : (fields : List Field) (place : ℕ) (id : ℤ) (kind : Kind) (required : Bool)
+    → leaf_from place (outer id kind required) (map (inner_leaf None) fields) ≡ find_from place id fields
+unfolding leaf_from find_from
+find_same [] place id kind required = refl
+find_same (field ∷ fields) place id kind required =
+    let here : Option Found = Some (place, (out-Field field).schema) in
+    let behind = leaf_from (place + 1) (outer id kind required) (map (inner_leaf None) fields) in
+    ap (λ (b : Bool). if b then here else behind) (id_same id (out-Field field).id)
+    ∙ ap (λ (o : Option Found). if is_this id (out-Field field).id then here else o) (find_same fields (place + 1) id kind required)
+
+-- ---- the cell of a field
+
+-- a field that was found is of an allowed type
+abbrev IsAllowed : Kind → Option Found → Type 0
+IsAllowed kind found = IfSome found (λ field. is_allowed kind field.1 ≡ true)
+
+-- that of a column that can be read is
+allowed : (column : Column) (found : Option Found) → IsThere column found → IsAllowed column.kind found
+allowed column None there = tt
+allowed column (Some found) there = there
+
+cell_same : (kind : Kind) (found : Option Found) (values : List Datum) → IsAllowed kind found
+    → leaf_cell values (source_as kind found) ≡ cell_at values found
+cell_same kind None values right = refl
+cell_same kind (Some found) values right = ap (λ (b : Bool). leaf_cell values (if b then Some found.0 else None)) right
+
+-- the cell that is wanted is the one of the field with the id
+one_same : (fields : List Field) (values : List Datum) (id : ℤ) (kind : Kind) (required : Bool)
+    → IsAllowed kind (find id fields)
+    → leaf_cell values (source (map (inner_leaf None) fields) (outer id kind required)) ≡ cell_with fields values id
+one_same fields values id kind required right =
+    ap (λ (o : Option Found). leaf_cell values (source_as kind o)) (find_same fields 0 id kind required)
+    ∙ cell_same kind (find id fields) values right
+
+-- so are those of columns
+cells_same : (columns : List Column) (fields : List Field) (values : List Datum)
+    → All (λ column. IsThere column (find column.id fields)) columns
+    → cells_with (map column_wanted columns) (map (inner_leaf None) fields) values
+    ≡ map (λ column. cell_with fields values column.id) columns
+cells_same [] fields values each = refl
+cells_same (column ∷ columns) fields values each =
+    let There = λ (c : Column). IsThere c (find c.id fields) in
+    let right = allowed column (find column.id fields) (All-head There column columns each) in
+    let here = one_same fields values column.id column.kind column.required right in
+    let others = cells_same columns fields values (All-tail There column columns each) in
+    let behind = cells_with (map column_wanted columns) (map (inner_leaf None) fields) values in
+    ap (λ (c : Cell). c ∷ behind) here ∙ ap (λ (cs : List Cell). cell_with fields values column.id ∷ cs) others
+
+-- ---- the row of a value
+
+columns_outer : (columns : List Column) → AreOuter (map column_wanted columns)
+columns_outer [] = tt
+columns_outer (column ∷ columns) = (refl, columns_outer columns)
+
+-- the cells that are wanted of the fields of a file
+abbrev row_cells : List Column → List Field → List Datum → List Cell
+row_cells columns fields values = cells_with (row_wanted columns) (map (inner_leaf None) fields) values
+
+-- they make the row that the values store
+row_same : (columns : List Column) (fields : List Field) (values : List Datum) → AreReadable columns fields
+    → row_of_cells (row_cells columns fields values) ≡ stored_row columns fields values
+row_same columns fields values readable =
+    let id = one_same fields values row_id_field kinds.Long false readable.row_id in
+    let last = one_same fields values last_updated_field kinds.Long false readable.last_updated in
+    let cells = cells_same columns fields values readable.each in
+    rw (id, last, cells) refl
+
+-- ---- nulls
+
+-- a null in a required column is refused where a null in a required field is
+nulls_same : (columns : List Column) (cells : List Cell)
+    → map_refusal field_refusal (wanted_nulls (map column_wanted columns) cells) ≡ check_nulls columns cells
+unfolding wanted_nulls check_nulls
+nulls_same [] cells = refl
+nulls_same (column ∷ columns) [] = refl
+nulls_same (column ∷ columns) (cell ∷ cells) =
+    elim (cases_Bool (column.required && is_null cell)) [
+      | inl wrong ↦ rw wrong refl
+      | inr right ↦ rw right (nulls_same columns cells)
+    ]
+
+-- those of lineage are not required
+row_nulls : (columns : List Column) (id last : Cell) (cells : List Cell)
+    → map_refusal field_refusal (wanted_nulls (row_wanted columns) (id ∷ last ∷ cells)) ≡ check_nulls columns cells
+unfolding wanted_nulls
+row_nulls columns id last cells = nulls_same columns cells
+
+nulls_of_row : (columns : List Column) (fields : List Field) (values : List Datum)
+    → map_refusal field_refusal (wanted_nulls (row_wanted columns) (row_cells columns fields values))
+    ≡ check_nulls columns (row_of_cells (row_cells columns fields values)).cells
+nulls_of_row columns fields values =
+    let leaves = map (inner_leaf None) fields in
+    let id = leaf_cell values (source leaves (number_wanted row_id_field)) in
+    let last = leaf_cell values (source leaves (number_wanted last_updated_field)) in
+    row_nulls columns id last (cells_with (map column_wanted columns) leaves values)
+
+-- ---- a row
+
+-- what is read of a record, as a row
+abbrev pub as_row : Result (List Cell × ℕ) FieldRefusal → Result (StoredRow × ℕ) RowRefusal
+as_row read = map_refusal field_refusal (map_value (λ read. (row_of_cells read.0, read.1)) read)
+
+-- cells that were checked are a row that was checked
+made_same : (nulls : Result (Unit {0}) FieldRefusal) (cells : List Cell) (place : ℕ)
+    → as_row ((nulls >>= λ _. Ok cells) >>= λ cs. Ok (cs, place))
+    ≡ ((map_refusal field_refusal nulls >>= λ _. Ok (row_of_cells cells)) >>= λ row. Ok (row, place))
+made_same (Ok done) cells place = refl
+made_same (Err e) cells place = refl
+
+-- a refusal of the bytes
+refusal_same : (e : DatumRefusal) → field_refusal (record_refusal e) ≡ datum_refusal e
+refusal_same (datums.Short place) = refl
+refusal_same (datums.TooLong place) = refl
+refusal_same (datums.Flag place) = refl
+refusal_same (datums.Branch place) = refl
+refusal_same (datums.Utf8 place) = refl
+refusal_same (datums.Size place) = refl
+refusal_same (datums.Items place) = refl
+refusal_same datums.Memory = refl
+
+-- a value as a record, and as a row
+abbrev record_of : List Column → Schema → Result (Datum × Cursor) FieldRefusal → Result (List Cell × ℕ) FieldRefusal
+record_of columns schema value =
+    value >>= λ v. checked (row_wanted columns) (wanted_of (row_wanted columns) schema v.0) >>= λ cells. Ok (cells, v.1.place)
+
+abbrev row_of : List Column → Schema → Result (Datum × Cursor) RowRefusal → Result (StoredRow × ℕ) RowRefusal
+row_of columns schema value =
+    value >>= λ v. checked_row columns (stored_row columns (fields_of schema) (values_of v.0)) >>= λ row. Ok (row, v.1.place)
+
+value_same : (columns : List Column) (schema : Schema) → AreReadable columns (fields_of schema)
+    → (value : Result (Datum × Cursor) DatumRefusal)
+    → as_row (record_of columns schema (map_refusal record_refusal value)) ≡ row_of columns schema (map_refusal datum_refusal value)
+unfolding wanted_nulls
+value_same columns schema readable (Err e) = ap (λ (refusal : RowRefusal). Err refusal) (refusal_same e)
+value_same columns schema readable (Ok (datum, at)) =
+    let wanted = row_wanted columns in
+    let cells = row_cells columns (fields_of schema) (values_of datum) in
+    let is = wanted_alone wanted (refl, (refl, columns_outer columns)) schema datum in
+    ap (λ (cs : List Cell). as_row (checked wanted cs >>= λ cs. Ok (cs, at.place))) is
+    ∙ made_same (wanted_nulls wanted cells) cells at.place
+    ∙ ap (λ (n : Result (Unit {0}) RowRefusal). (n >>= λ _. Ok (row_of_cells cells)) >>= λ row. Ok (row, at.place))
+    (nulls_of_row columns (fields_of schema) (values_of datum))
+    ∙ ap (λ (row : StoredRow). checked_row columns row >>= λ row. Ok (row, at.place))
+    (row_same columns (fields_of schema) (values_of datum) readable)
+
+-- ---- the record of the reader
+
+module _ (schema : Schema) (columns : List Column) (wanted : List Wanted) (readable : AreReadable columns (fields_of schema))
+    (all : wanted ≡ row_wanted columns) (input : List ℕ) (place : ℕ) where
+  -- a row is the record of what is wanted
+  pub row_known : as_row (record_at schema wanted input place) ≡ row_at schema columns input place
+  unfolding record_at row_at
+  row_known =
+      ap (λ (w : List Wanted). as_row (record_at schema w input place)) all
+      ∙ value_same columns schema readable (datum_at schema input (start place))
+
+  taken_as : (read : Result (List Cell × ℕ) FieldRefusal) (cells : List Cell) (result : Result ℕ FieldRefusal) (after : ℕ)
+      → result ≡ Ok after → Gives never (λ n. (cells, n)) result read → as_row read ≡ Ok (row_of_cells cells, after)
+  taken_as read cells result after is gives =
+      ap as_row (subst (λ (r : Result ℕ FieldRefusal). Gives never (λ n. (cells, n)) r read) is gives)
+
+  refused_as : (read : Result (List Cell × ℕ) FieldRefusal) (cells : List Cell) (result : Result ℕ FieldRefusal)
+      (e : FieldRefusal) → result ≡ Err e → Gives never (λ n. (cells, n)) result read → as_row read ≡ Err (field_refusal e)
+  refused_as read cells result e is gives =
+      ap as_row (subst (λ (r : Result ℕ FieldRefusal). Gives never (λ n. (cells, n)) r read) is gives)
+
+  -- a record that is taken is the row
+  pub row_taken : (cells : List Cell) (result : Result ℕ FieldRefusal) (after : ℕ) → result ≡ Ok after
+      → Gives never (λ n. (cells, n)) result (record_at schema wanted input place)
+      → row_at schema columns input place ≡ Ok (row_of_cells cells, after)
+  row_taken cells result after is gives =
+      sym row_known ∙ taken_as (record_at schema wanted input place) cells result after is gives
+
+  -- a record that is refused is refused as a row
+  pub row_refused : (cells : List Cell) (result : Result ℕ FieldRefusal) (e : FieldRefusal) → result ≡ Err e
+      → Gives never (λ n. (cells, n)) result (record_at schema wanted input place)
+      → row_at schema columns input place ≡ Err (field_refusal e)
+  row_refused cells result e is gives =
+      sym row_known ∙ refused_as (record_at schema wanted input place) cells result e is gives
+
+  behind_as : (read : Result (List Cell × ℕ) FieldRefusal)
+      → place_behind (as_row read) ≡ map_refusal field_refusal (map_value (λ r. r.1) read)
+  behind_as (Ok read) = refl
+  behind_as (Err e) = refl
+
+  behind_known : place_behind (row_at schema columns input place)
+      ≡ map_refusal field_refusal (passed_at schema wanted input place)
+  behind_known = ap place_behind (sym row_known) ∙ behind_as (record_at schema wanted input place)
+
+  -- a record that is passed is the row that is passed
+  pub row_passed : (result : Result ℕ FieldRefusal) (after : ℕ) → result ≡ Ok after
+      → Gives never (λ n. n) result (passed_at schema wanted input place)
+      → place_behind (row_at schema columns input place) ≡ Ok after
+  row_passed result after is gives =
+      behind_known ∙ ap (map_refusal field_refusal)
+      (subst (λ (r : Result ℕ FieldRefusal). Gives never (λ n. n) r (passed_at schema wanted input place)) is gives)
+
+  pub row_not_passed : (result : Result ℕ FieldRefusal) (e : FieldRefusal) → result ≡ Err e
+      → Gives never (λ n. n) result (passed_at schema wanted input place)
+      → place_behind (row_at schema columns input place) ≡ Err (field_refusal e)
+  row_not_passed result e is gives =
+      behind_known ∙ ap (map_refusal field_refusal)
+      (subst (λ (r : Result ℕ FieldRefusal). Gives never (λ n. n) r (passed_at schema wanted input place)) is gives)
+
+  known_as : (read : Result (List Cell × ℕ) FieldRefusal) → is_ok (as_row read) ≡ true → is_ok read ≡ true
+  known_as (Ok read) known = refl
+  known_as (Err e) known = known
+
+  -- the record of a row that is right is right
+  pub record_known : is_ok (row_at schema columns input place) ≡ true → is_ok (record_at schema wanted input place) ≡ true
+  record_known known = known_as (record_at schema wanted input place) (ap is_ok row_known ∙ known)
+
+-- ---- the reader
+
+-- a slot has a cell for the id and one for the last change
+pub has_lineage : (reader : RowReader) (slot : Cells) → IsReader reader → IsSlot reader slot → 2 ≤ length slot.wanted.items
+has_lineage reader slot right fits =
+    let sources = fits.each ∙ ap length right.layout.sources ∙ length-map reader.layout.wanted.items _ in
+    omega (arith, sources, ap length right.wanted)
