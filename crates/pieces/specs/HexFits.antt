@@ -57,8 +57,8 @@ pairs_fit (Some high) bytes (byte ∷ rest) place small all =
     (λ low is. pairs_fit None (bytes ++ (high * 16 + low) ∷ []) rest (place + 1) tt
     (pair_small bytes high low small (digit_small byte low is) all))
   where
-    go : (digit : Option ℕ) → hex_digit byte ≡ digit
-        → ((low : ℕ) → hex_digit byte ≡ Some low → IfOk (pairs_at None (bytes ++ (high * 16 + low) ∷ []) rest (place + 1))
+    go : (digit : Option ℕ) → hex_digit byte ≡ digit → ((low : ℕ) → hex_digit byte ≡ Some low
+        → IfOk (pairs_at None (bytes ++ (high * 16 + low) ∷ []) rest (place + 1))
         (λ read. are_bytes read.0 ≡ true))
         → IfOk (pairs_at (Some high) bytes (byte ∷ rest) place) (λ read. are_bytes read.0 ≡ true)
     go None is next = rw is tt

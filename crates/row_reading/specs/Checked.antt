@@ -37,7 +37,8 @@ shown_of reader rest slot first sequence position id last = record {
 }
 
 -- the rows that are left were checked, and have ids that are longs if the file has a first one
-pub record IsChecked (reader : RowReader) (rest : TheRest) (slot : Cells) (first : Option ℤ) (position : ℕ) : Type 0 where
+pub record IsChecked (reader : RowReader) (rest : TheRest) (slot : Cells) (first : Option ℤ) (position : ℕ)
+    : Type 0 where
   pub ready : IsReady IsReader IsSlot reader rest slot
   pub right : (rows_left reader rest).fault ≡ None
   pub few : position + length (rows_left reader rest).objects ≤ most_rows
