@@ -15,10 +15,10 @@ static CALLS: [(Outside, Case); 5] = [
         (100, &[2], &[], &[]),
         (ROWS, THREE_ROWS, 5, "", "rowline: fault InputFault\n"),
     ),
-    // The second write fails, and so does that of the line.
+    // The second write fails, and so does the second one of the line.
     (
         (10, &[], &[2], &[2]),
-        (ROWS, THREE_ROWS, 5, "1000 7 10 ", "rowline: f"),
+        (ROWS, THREE_ROWS, 5, "1000 7 10 ", "rowline: "),
     ),
     // Each call moves one byte.
     ((1, &[], &[], &[]), (ROWS, THREE_ROWS, 0, THREE_LINES, "")),

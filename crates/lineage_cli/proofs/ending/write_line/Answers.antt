@@ -29,7 +29,7 @@ returns-in_err-write_all-2-clause-text g c =
     let is = c.class_word.ensures ∙ ap class_word c.class_of.ensures in
     let part = subst (λ (l : List ℕ). AppendsFront first second l) is c.in_err-write_all-2.ensures.text in
     rw p.1 (begins_then before first second (codes "rowline: ") (word ++ (text ++ codes "\n")) c.in_ok-write_all.ensures.text
-        (begins_more first second word (text ++ codes "\n") part))
+    (begins_more first second word (text ++ codes "\n") part))
 
 pub returns-in_err-write_told-clause-text : goal.returns-in_err-write_told-clause-text
 returns-in_err-write_told-clause-text g c =
@@ -44,7 +44,7 @@ returns-in_err-write_told-clause-text g c =
     let whole = subst (λ (l : List ℕ). Appends first second l) is c.in_ok-write_all-2.ensures.text in
     let part = subst (λ (l : List ℕ). AppendsFront second third l) c.told_of.ensures c.in_err-write_told.ensures.text in
     rw p.1 (begins_then before first third (codes "rowline: ") (word ++ (text ++ codes "\n")) c.in_ok-write_all.ensures.text
-        (begins_then first second third word (text ++ codes "\n") whole (begins_more second third text (codes "\n") part)))
+    (begins_then first second third word (text ++ codes "\n") whole (begins_more second third text (codes "\n") part)))
 
 pub returns-clause-text : goal.returns-clause-text
 returns-clause-text g c =
@@ -59,5 +59,5 @@ returns-clause-text g c =
     let whole = subst (λ (l : List ℕ). Appends first second l) is c.in_ok-write_all-2.ensures.text in
     let told = subst (λ (l : List ℕ). Appends second third l) c.told_of.ensures c.in_ok-write_told.ensures.text in
     puts_then before first last c.write_all-3.result (codes "rowline: ") (word ++ (text ++ codes "\n")) c.in_ok-write_all.ensures.text
-        (puts_then first second last c.write_all-3.result word (text ++ codes "\n") whole
-        (puts_then second third last c.write_all-3.result text (codes "\n") told c.write_all-3.ensures.text))
+    (puts_then first second last c.write_all-3.result word (text ++ codes "\n") whole
+    (puts_then second third last c.write_all-3.result text (codes "\n") told c.write_all-3.ensures.text))
