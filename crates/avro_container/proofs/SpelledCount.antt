@@ -9,7 +9,7 @@ use Rattle.avro_container.specs.Header.{part_at}
 use Rattle.avro_container.specs.Block.{natural, count_at}
 use Rattle.words.specs.Parts.{Took}
 use Rattle.words.specs.Steps.{bind_then, map_ok}
-use Rattle.avro_container.proofs.SpelledNumber.{number_took}
+use Rattle.avro_wire.specs.TookLaws.{number_took}
 use Rattle.avro_container.proofs.SpelledItem.{range_took, part_took}
 
 -- a number that is not below 0
@@ -24,7 +24,7 @@ unfolding count_at
 count_took block input place taken read =
     bind_then (map_refusal (block_refusal block) (number_at long input place)) (natural block) taken read (λ number first second.
     let is = natural_is block number.0 number.1 taken second in
-    rw (← is.0, ← is.1) (number_took input place number (map_ok (block_refusal block) (number_at long input place) number first)))
+    rw (← is.0, ← is.1) (number_took long input place number (map_ok (block_refusal block) (number_at long input place) number first)))
 
 -- what is spelled so is read, whatever follows
 pub count_again : (block : ℕ) (input : List ℕ) (place : ℕ) (bytes rest : List ℕ) (n : ℕ)

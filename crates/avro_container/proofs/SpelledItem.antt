@@ -12,7 +12,7 @@ use Rattle.avro_container.specs.Refusal.{header_refusal}
 use Rattle.avro_container.specs.Header.{item_at, part_at}
 use Rattle.words.specs.Parts.{Took, behind_is, range_is, enough_are, enough_stand, took_then, took_as}
 use Rattle.words.specs.Steps.{bind_then, map_ok, test_failed, ok_is}
-use Rattle.avro_container.proofs.SpelledNumber.{number_took}
+use Rattle.avro_wire.specs.TookLaws.{number_took}
 
 -- the bytes that stand at a place, whatever follows
 pub slice_is : (input : List ℕ) (place : ℕ) (bytes rest : List ℕ) → drop place input ≡ bytes ++ rest
@@ -56,7 +56,7 @@ pub item_took : (input : List ℕ) (place : ℕ) (range : ℕ × ℕ) → item_a
 unfolding item_at bytes_at
 item_took input place range read =
     bind_then (number_at long input place) (range_behind place input) range (map_ok header_refusal (bytes_at input place) range read)
-    (λ number first second. behind_took input place number.0 number.1 range (number_took input place number first) second)
+    (λ number first second. behind_took input place number.0 number.1 range (number_took long input place number first) second)
 
 -- what an item that is spelled reads as
 pub record ItemAgain (input : List ℕ) (place : ℕ) (bytes value : List ℕ) : Type 0 where

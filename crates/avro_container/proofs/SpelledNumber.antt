@@ -1,8 +1,9 @@
 -- A number by the relation: what is read is spelled so, and what is spelled so is read.
-use Rattle.std.proofs.Common.{◌≡◌, ℕ, ◌+◌, ◌<◌, ℤ, List, [], ◌∷◌, ◌++◌, length, drop, Ok, inl, inr, refl, arith}
+use Rattle.std.proofs.Common.{◌≡◌, ℕ, ◌+◌, ◌<◌, ℤ, List, [], ◌∷◌, ◌++◌, length, drop, Ok, refl, arith}
 use Rattle.avro_wire.specs.Number.{long, SpellsNumber}
 use Rattle.avro_wire.specs.Reading.{number_at}
-use Rattle.avro_wire.specs.ReadingLaws.{front_cases, number_again, number_short, number_long}
+use Rattle.avro_wire.specs.ReadingLaws.{number_again}
+use Rattle.avro_wire.specs.TookLaws.{number_took}
 use Rattle.avro_container.specs.Refusal.{header_refusal}
 use Rattle.avro_container.specs.Header.{map_number_at}
 use Rattle.words.specs.Parts.{Took}
@@ -13,25 +14,11 @@ pub number_some : (bytes : List ℕ) (value : ℤ) → SpellsNumber long bytes v
 number_some [] value spelled = absurd spelled.groups
 number_some (b ∷ bytes) value spelled = omega arith
 
--- a number that is read is spelled so
-pub number_took : (input : List ℕ) (place : ℕ) (taken : ℤ × ℕ) → number_at long input place ≡ Ok taken
-    → Took input place taken.1 (λ bytes. SpellsNumber long bytes taken.0)
-number_took input place taken read =
-    elim (front_cases long (drop place input)) [
-      | inl front ↦
-          let again = number_again long input place front.bytes front.after front.value front.parts front.spelled in
-          let value : taken.0 ≡ front.value = cc in
-          let after : taken.1 ≡ place + length front.bytes = cc in
-          record { bytes = front.bytes; stand = record { rest = front.after; parts = front.parts; ends = after }; such = rw value front.spelled }
-      | inr (inl inside) ↦ let e = number_short long input place inside in absurd (cc)
-      | inr (inr too_long) ↦ let e = number_long long input place too_long in absurd (cc)
-    ]
-
 -- a number of the map that is read is spelled so
 pub map_number_took : (input : List ℕ) (place : ℕ) (taken : ℤ × ℕ) → map_number_at input place ≡ Ok taken
     → Took input place taken.1 (λ bytes. SpellsNumber long bytes taken.0)
 unfolding map_number_at
-map_number_took input place taken read = number_took input place taken (map_ok header_refusal (number_at long input place) taken read)
+map_number_took input place taken read = number_took long input place taken (map_ok header_refusal (number_at long input place) taken read)
 
 -- a number that is spelled is read in the map, whatever follows
 pub map_number_again : (input : List ℕ) (place : ℕ) (bytes rest : List ℕ) (value : ℤ)

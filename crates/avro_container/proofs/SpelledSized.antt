@@ -6,6 +6,7 @@ use Rattle.std.proofs.lemmas.List.{length-append}
 use Rattle.words.specs.Grammar.{Joined}
 use Rattle.avro_wire.specs.Number.{long, SpellsNumber}
 use Rattle.avro_wire.specs.Blocks.{SpellsItems, IsSized}
+use Rattle.avro_wire.specs.TookLaws.{sized_is}
 use Rattle.avro_container.specs.declared.refusal.ContainerRefusal.TheVariants.{Header}
 use Rattle.avro_container.specs.Header.{Pair, most_pairs, is_natural, map_number_at, pairs_at, sized_at, map_block_at}
 use Rattle.avro_container.specs.Format.{SpellsPair}
@@ -15,24 +16,6 @@ use Rattle.avro_container.proofs.SpelledNumber.{map_number_took, map_number_agai
 use Rattle.avro_container.proofs.SpelledPairs.{pairs_took, pairs_again}
 use Rattle.avro_container.proofs.Keys.{IsSoFar}
 use Rattle.avro_container.proofs.MapBlock.{SpellsMapBlock, is_natural_is, BlockTook, BlockAgain}
-
--- its bytes, of one that tells its size
-sized_is : (n : ℕ) (more : List Pair) (first after : ℕ) (size : ℤ) (bytes : List ℕ) → length more ≡ suc n → size ≡ pos (after - first)
-    → Joined (λ front. SpellsNumber long front (negsuc n)) (Joined (λ front. SpellsNumber long front size) (λ items. (after ≡ first + length items) × SpellsItems SpellsPair more items)) bytes → SpellsMapBlock more bytes
-sized_is n more first after size bytes many true_size joined =
-    let inner = joined.second in
-    let same : after - first ≡ length inner.rest = omega (arith, inner.second.0) in
-    inr (record {
-      count = joined.front;
-      size = inner.front;
-      spelled = inner.rest;
-      whole = joined.parts ∙ ap (λ (x : List ℕ). joined.front ++ x) inner.parts;
-      less = n;
-      counts = joined.first;
-      many = omega arith;
-      sizes = subst (SpellsNumber long inner.front) (true_size ∙ ap (λ (k : ℕ). pos k) same) inner.first;
-      spells = inner.second.1;
-    })
 
 -- what is read is spelled so
 pub sized_took : (place n : ℕ) (pairs : List Pair) (input : List ℕ) (start : ℕ) (taken : List Pair × ℕ)
@@ -52,7 +35,7 @@ sized_took place n pairs input start taken number read kept =
     let is : BlockTook pairs input place items = record {
       more = block.more;
       grown = block.grown;
-      took = took_as input place items.1 (λ bytes. sized_is n block.more size.1 items.1 size.0 bytes block.many true_size) whole;
+      took = took_as input place items.1 (λ bytes read. inr (sized_is SpellsPair n block.more size.1 items.1 size.0 bytes block.many true_size read)) whole;
       kept = block.kept;
       few = omega (arith, ltb-false _ _ passed.0, block.many, ap length block.grown, length-append pairs block.more);
     } in

@@ -6,9 +6,9 @@ use Rattle.std.proofs.Math.Nat.{mul-le-mul_right, pow-le-pow_right, mod-eq_of_lt
 use Rattle.std.specs.Prelude.{nat_le, nat_lt, Ok, Err}
 use Rattle.std.specs.List.{prefix_len}
 use Rattle.std.proofs.Common.{inl, inr}
-use Rattle.std.proofs.lemmas.Bool.{cases_lt, false≢true, le-leb, lt-leb, le-ltb, lt-ltb}
+use Rattle.std.proofs.lemmas.Bool.{cases_lt, le-leb, lt-leb, le-ltb, lt-ltb}
 use Rattle.std.proofs.lemmas.List.{length-drop, length-take-le, take_more, get_or-drop}
-use Rattle.std.proofs.lemmas.List.Sums.{prefix_len_is, prefix_len_stops}
+use Rattle.std.proofs.lemmas.List.Sums.{prefix_len_is}
 use Rattle.avro_wire.specs.declared.refusal.WireRefusal.TheVariants.{Short, TooLong}
 use Rattle.avro_wire.specs.Number.{Bounds, groups_value}
 use Rattle.avro_wire.specs.Reading.{has_high_bit, high_bytes, groups_at}

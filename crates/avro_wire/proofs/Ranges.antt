@@ -1,9 +1,8 @@
 -- Bytes behind a length, by the relation: what can stand there, and what is read.
-use Rattle.std.proofs.Common.{◌≡◌, ℕ, ◌+◌, ◌-◌, ◌≤◌, ℤ, pos, negsuc, ◌<ℤ◌, true, false, List, ◌++◌, ◌⊎◌, ◌↔◌, length}
-use Rattle.std.proofs.Common.{drop, slice_range, Result, Ok, Err, IfOk, nat_lt, inl, inr, refl, sym, ap, ◌∙◌, arith}
-use Rattle.std.proofs.lemmas.Bool.{cases_lt, lt-ltb, le-ltb}
+use Rattle.std.proofs.Common.{◌≡◌, ℕ, ◌+◌, ◌-◌, ◌≤◌, ℤ, pos, negsuc, ◌<ℤ◌, true, List, ◌++◌, ◌⊎◌, ◌↔◌, length}
+use Rattle.std.proofs.Common.{drop, slice_range, Result, Ok, Err, IfOk, nat_lt, inl, inr, refl, sym, ◌∙◌, arith}
+use Rattle.std.proofs.lemmas.Bool.{cases_lt, lt-ltb}
 use Rattle.std.proofs.lemmas.Int.{ints}
-use Rattle.std.proofs.lemmas.List.{length-drop, length-append}
 use Rattle.avro_wire.specs.declared.refusal.WireRefusal.{WireRefusal}
 use Rattle.avro_wire.specs.declared.refusal.WireRefusal.TheVariants.{Short, TooLong}
 use Rattle.avro_wire.specs.Number.{long, SpellsNumber, EndsInsideBytes, IsNoLength}

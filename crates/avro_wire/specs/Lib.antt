@@ -4,4 +4,5 @@ pub mod Blocks
 pub mod Writing
 pub mod GroupsLaws
 pub mod ReadingLaws
+pub mod TookLaws
 pub mod WritingLaws

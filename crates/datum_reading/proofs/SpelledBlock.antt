@@ -8,6 +8,7 @@ use Rattle.words.specs.Reading.{◌>>=◌}
 use Rattle.words.specs.Grammar.{Joined}
 use Rattle.avro_wire.specs.Number.{long, SpellsNumber}
 use Rattle.avro_wire.specs.Blocks.{SpellsItems, IsCounted, IsSized}
+use Rattle.avro_wire.specs.TookLaws.{sized_is}
 use Rattle.datum_reading.specs.declared.cursor.Cursor.{Cursor}
 use Rattle.datum_reading.specs.declared.refusal.DatumRefusal.TheVariants.{Items, Size}
 use Rattle.datum_tree.specs.Value.{most_items}
@@ -72,24 +73,6 @@ counted_took item S weigh agrees n before input at start read number same few so
       few = items.list.few;
     }
 
--- the bytes of a block that tells its size
-sized_is : {A : Type 0} (S : A → List ℕ → Type 0) (n : ℕ) (more : List A) (first after : ℕ) (size : ℤ) (bytes : List ℕ) → length more ≡ suc n → size ≡ pos (after - first)
-    → Joined (λ front. SpellsNumber long front (negsuc n)) (Joined (λ front. SpellsNumber long front size) (λ items. (after ≡ first + length items) × SpellsItems S more items)) bytes → SpellsBlock S more bytes
-sized_is S n more first after size bytes many true_size joined =
-    let inner = joined.second in
-    let same : after - first ≡ length inner.rest = omega (arith, inner.second.0) in
-    inr (record {
-      count = joined.front;
-      size = inner.front;
-      spelled = inner.rest;
-      whole = joined.parts ∙ ap (λ (x : List ℕ). joined.front ++ x) inner.parts;
-      less = n;
-      counts = joined.first;
-      many = omega arith;
-      sizes = subst (SpellsNumber long inner.front) (true_size ∙ ap (λ (k : ℕ). pos k) same) inner.first;
-      spells = inner.second.1;
-    })
-
 -- the bytes that were taken, with their number
 took_long : {P : List ℕ → Type 0} (input : List ℕ) (place after : ℕ) → Took input place after P → Took input place after (λ bytes. (after ≡ place + length bytes) × P bytes)
 took_long input place after took = record { bytes = took.bytes; stand = took.stand; such = (took.stand.ends, took.such) }
@@ -112,7 +95,7 @@ sized_took item S weigh agrees n before input at start read number same few is =
     subst (ListTook (SpellsBlock S) (with_each weigh) before input at) (ok_is blocks.0 read test.1) (record {
       more = items.list.more;
       grown = items.list.grown;
-      took = took_as input at.place blocks.0.1.place (λ bytes. sized_is S n items.list.more size.1.place blocks.0.1.place size.0 bytes items.many true_size) whole;
+      took = took_as input at.place blocks.0.1.place (λ bytes read. inr (sized_is S n items.list.more size.1.place blocks.0.1.place size.0 bytes items.many true_size read)) whole;
       counts = omega (arith, items.list.counts, items.many, size_took.counts);
       few = items.list.few;
     })

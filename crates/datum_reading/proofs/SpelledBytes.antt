@@ -25,7 +25,8 @@ use Rattle.words.specs.Parts.{Stand, Took, behind_is, range_is, enough_are, enou
 use Rattle.words.specs.Parts.{took_then, took_as}
 use Rattle.words.specs.Steps.{bind_ok, value_ok, map_ok, test_passed, test_failed, cond_is, ok_is}
 use Rattle.datum_reading.specs.Agreeing.{Passes, ReadTook, Agrees, no_items}
-use Rattle.datum_reading.proofs.SpelledNumber.{number_took, moved_is}
+use Rattle.avro_wire.specs.TookLaws.{number_took}
+use Rattle.datum_reading.proofs.SpelledNumber.{moved_is}
 use Rattle.datum_tree.specs.Counts.{counts-Flag, counts-Raw}
 
 -- ---- bytes behind their length

@@ -5,7 +5,8 @@ use Rattle.std.specs.Prelude.{ℤ, pos, negsuc}
 use Rattle.words.specs.Reading.{map_value, map_refusal}
 use Rattle.avro_wire.specs.Number.{Bounds, int, SpellsNumber}
 use Rattle.avro_wire.specs.Reading.{number_at}
-use Rattle.avro_wire.specs.ReadingLaws.{front_cases, number_again, number_short, number_long}
+use Rattle.avro_wire.specs.ReadingLaws.{number_again}
+use Rattle.avro_wire.specs.TookLaws.{number_took}
 use Rattle.datum_reading.specs.declared.cursor.Cursor.{Cursor}
 use Rattle.datum_reading.specs.declared.refusal.DatumRefusal.TheVariants.{Branch}
 use Rattle.datum_reading.specs.Refusal.{wire_refusal}
@@ -13,19 +14,6 @@ use Rattle.datum_reading.specs.Reading.{moved, number_from, within, choice_at}
 use Rattle.words.specs.Parts.{Took}
 use Rattle.words.specs.Steps.{bind_ok, value_ok, map_ok, test_passed}
 use Rattle.datum_reading.specs.Agreeing.{ReadTook, Agrees, no_items, cursor_is}
-
--- a number that is read is spelled so
-pub number_took : (bounds : Bounds) (input : List ℕ) (place : ℕ) (taken : ℤ × ℕ) → number_at bounds input place ≡ Ok taken → Took input place taken.1 (λ bytes. SpellsNumber bounds bytes taken.0)
-number_took bounds input place taken read =
-    elim (front_cases bounds (drop place input)) [
-      | inl front ↦
-          let again = number_again bounds input place front.bytes front.after front.value front.parts front.spelled in
-          let value : taken.0 ≡ front.value = cc in
-          let after : taken.1 ≡ place + length front.bytes = cc in
-          record { bytes = front.bytes; stand = record { rest = front.after; parts = front.parts; ends = after }; such = rw value front.spelled }
-      | inr (inl inside) ↦ let e = number_short bounds input place inside in absurd (cc)
-      | inr (inr too_long) ↦ let e = number_long bounds input place too_long in absurd (cc)
-    ]
 
 -- a cursor moved to the place where another stands
 pub moved_is : (at after : Cursor) (place : ℕ) → place ≡ after.place → after.items ≡ at.items + 0 → moved at place ≡ after

@@ -74,6 +74,7 @@ pub trait Object<'a>: Drop {
 
     /// A law and no code: what is read is spelled so, and what is spelled so is read.
     fn agrees(&self)
+        requires right { right self.now }
         ensures { Agrees (at self.now) (Spells self.now) };
 }
 

@@ -1,45 +1,34 @@
 -- A row is read as the record of the fields that are wanted for its columns.
 use Rattle.std.proofs.Common.{◌≡◌, ℕ, ◌+◌, ◌≤◌, true, false, List, [], ◌∷◌, length, map, Ok, Err, refl, sym, ap, subst}
-use Rattle.std.proofs.Common.{◌∙◌, inl, inr, arith}
+use Rattle.std.proofs.Common.{◌∙◌, arith}
 use Rattle.std.specs.Prelude.{ℤ, Bool, ◌&&◌, All, Option, Some, None, IfSome, Result, is_ok, if◌then◌else◌}
-use Rattle.std.proofs.lemmas.Bool.{cases_Bool}
 use Rattle.std.proofs.lemmas.List.{length-map}
 use Rattle.std.proofs.lemmas.List.Elements.{All-head, All-tail}
 use Rattle.std.specs.Ordering.{int_eq}
-use Rattle.words.specs.Reading.{◌>>=◌, map_refusal, map_value, Gives, never}
+use Rattle.words.specs.Reading.{map_refusal, map_value, Gives, never}
 use Rattle.row_types.specs.declared.cell.Cell.{Cell}
-use Rattle.row_types.specs.CellRef.{is_null}
 use Rattle.row_types.specs.declared.column.Column.{Column}
 use Rattle.row_types.specs.declared.column.Kind.{Kind}
 use Rattle.row_types.specs.declared.column.Kind.TheVariants as kinds
-use Rattle.row_types.specs.declared.row.StoredRow.{StoredRow}
 use Rattle.schema_tree.specs.declared.schema.Schema.{Schema}
 use Rattle.schema_tree.specs.declared.schema.Field.{Field, out-Field}
 use Rattle.datum_tree.specs.declared.datum.Datum.{Datum}
-use Rattle.datum_reading.specs.declared.cursor.Cursor.{Cursor}
-use Rattle.datum_reading.specs.declared.refusal.DatumRefusal.{DatumRefusal}
-use Rattle.datum_reading.specs.declared.refusal.DatumRefusal.TheVariants as datums
-use Rattle.datum_reading.specs.Reading.{datum_at}
 use Rattle.cell_reading.specs.Kind.{is_allowed}
 use Rattle.cell_reading.specs.Value.{values_of}
-use Rattle.fields.specs.declared.leaf.Leaf.{Leaf}
 use Rattle.fields.specs.declared.taking.Cells.{Cells}
 use Rattle.fields.specs.declared.wanted.Wanted.{Wanted}
 use Rattle.fields.specs.declared.refusal.FieldRefusal.{FieldRefusal}
 use Rattle.fields.specs.Flat.{inner_leaf}
 use Rattle.fields.specs.Wanted.{fields_of, is_id, source_as, source, cells_with, wanted_of}
-use Rattle.fields.specs.Wanted.{find_from as leaf_from, cell_at as leaf_cell, check_nulls as wanted_nulls}
+use Rattle.fields.specs.Wanted.{find_from as leaf_from, cell_at as leaf_cell}
 use Rattle.fields.specs.AloneLaws.{AreOuter, wanted_alone}
-use Rattle.fields.specs.Record.{record_at, passed_at, start, checked}
-use Rattle.fields.specs.Record.{datum_refusal as record_refusal}
+use Rattle.fields.specs.Record.{record_at, passed_at}
 use Rattle.objects.specs.Object.{place_behind}
-use Rattle.stored_rows.specs.declared.refusal.RowRefusal.{RowRefusal}
-use Rattle.stored_rows.specs.Refusal.{datum_refusal}
 use Rattle.stored_rows.specs.Field.{Found, is_this, find_from, find, row_id_field, last_updated_field}
 use Rattle.stored_rows.specs.Stored.{IsThere, AreReadable}
-use Rattle.stored_rows.specs.Row.{cell_at, cell_with, stored_row, check_nulls, checked_row}
+use Rattle.stored_rows.specs.Row.{cell_at, cell_with, stored_row}
 use Rattle.row_reading.specs.declared.row.RowReader.{RowReader}
-use Rattle.row_reading.specs.Wanted.{number_wanted, column_wanted, row_wanted, row_of_cells, field_refusal}
+use Rattle.row_reading.specs.Wanted.{column_wanted, row_wanted, row_of_cells, field_refusal, as_row}
 use Rattle.row_reading.specs.Reader.{IsReader, IsSlot}
 use Rattle.row_reading.specs.File.{row_at}
 
@@ -125,94 +114,21 @@ row_same columns fields values readable =
     let cells = cells_same columns fields values readable.each in
     rw (id, last, cells) refl
 
--- ---- nulls
+-- the cells that are wanted of a value make the row that it stores
+pub cells_make : (columns : List Column) (schema : Schema) (datum : Datum) → AreReadable columns (fields_of schema)
+    → row_of_cells (wanted_of (row_wanted columns) schema datum) ≡ stored_row columns (fields_of schema) (values_of datum)
+cells_make columns schema datum readable =
+    let alone = wanted_alone (row_wanted columns) (refl, (refl, columns_outer columns)) schema datum in
+    ap row_of_cells alone ∙ row_same columns (fields_of schema) (values_of datum) readable
 
--- a null in a required column is refused where a null in a required field is
-nulls_same : (columns : List Column) (cells : List Cell)
-    → map_refusal field_refusal (wanted_nulls (map column_wanted columns) cells) ≡ check_nulls columns cells
-unfolding wanted_nulls check_nulls
-nulls_same [] cells = refl
-nulls_same (column ∷ columns) [] = refl
-nulls_same (column ∷ columns) (cell ∷ cells) =
-    elim (cases_Bool (column.required && is_null cell)) [
-      | inl wrong ↦ rw wrong refl
-      | inr right ↦ rw right (nulls_same columns cells)
-    ]
+-- ---- what is read of a record
 
--- those of lineage are not required
-row_nulls : (columns : List Column) (id last : Cell) (cells : List Cell)
-    → map_refusal field_refusal (wanted_nulls (row_wanted columns) (id ∷ last ∷ cells)) ≡ check_nulls columns cells
-unfolding wanted_nulls
-row_nulls columns id last cells = nulls_same columns cells
-
-nulls_of_row : (columns : List Column) (fields : List Field) (values : List Datum)
-    → map_refusal field_refusal (wanted_nulls (row_wanted columns) (row_cells columns fields values))
-    ≡ check_nulls columns (row_of_cells (row_cells columns fields values)).cells
-nulls_of_row columns fields values =
-    let leaves = map (inner_leaf None) fields in
-    let id = leaf_cell values (source leaves (number_wanted row_id_field)) in
-    let last = leaf_cell values (source leaves (number_wanted last_updated_field)) in
-    row_nulls columns id last (cells_with (map column_wanted columns) leaves values)
-
--- ---- a row
-
--- what is read of a record, as a row
-abbrev pub as_row : Result (List Cell × ℕ) FieldRefusal → Result (StoredRow × ℕ) RowRefusal
-as_row read = map_refusal field_refusal (map_value (λ read. (row_of_cells read.0, read.1)) read)
-
--- cells that were checked are a row that was checked
-made_same : (nulls : Result (Unit {0}) FieldRefusal) (cells : List Cell) (place : ℕ)
-    → as_row ((nulls >>= λ _. Ok cells) >>= λ cs. Ok (cs, place))
-    ≡ ((map_refusal field_refusal nulls >>= λ _. Ok (row_of_cells cells)) >>= λ row. Ok (row, place))
-made_same (Ok done) cells place = refl
-made_same (Err e) cells place = refl
-
--- a refusal of the bytes
-refusal_same : (e : DatumRefusal) → field_refusal (record_refusal e) ≡ datum_refusal e
-refusal_same (datums.Short place) = refl
-refusal_same (datums.TooLong place) = refl
-refusal_same (datums.Flag place) = refl
-refusal_same (datums.Branch place) = refl
-refusal_same (datums.Utf8 place) = refl
-refusal_same (datums.Size place) = refl
-refusal_same (datums.Items place) = refl
-refusal_same datums.Memory = refl
-
--- a value as a record, and as a row
-abbrev record_of : List Column → Schema → Result (Datum × Cursor) FieldRefusal → Result (List Cell × ℕ) FieldRefusal
-record_of columns schema value =
-    value >>= λ v. checked (row_wanted columns) (wanted_of (row_wanted columns) schema v.0) >>= λ cells. Ok (cells, v.1.place)
-
-abbrev row_of : List Column → Schema → Result (Datum × Cursor) RowRefusal → Result (StoredRow × ℕ) RowRefusal
-row_of columns schema value =
-    value >>= λ v. checked_row columns (stored_row columns (fields_of schema) (values_of v.0)) >>= λ row. Ok (row, v.1.place)
-
-value_same : (columns : List Column) (schema : Schema) → AreReadable columns (fields_of schema)
-    → (value : Result (Datum × Cursor) DatumRefusal)
-    → as_row (record_of columns schema (map_refusal record_refusal value)) ≡ row_of columns schema (map_refusal datum_refusal value)
-unfolding wanted_nulls
-value_same columns schema readable (Err e) = ap (λ (refusal : RowRefusal). Err refusal) (refusal_same e)
-value_same columns schema readable (Ok (datum, at)) =
-    let wanted = row_wanted columns in
-    let cells = row_cells columns (fields_of schema) (values_of datum) in
-    let is = wanted_alone wanted (refl, (refl, columns_outer columns)) schema datum in
-    ap (λ (cs : List Cell). as_row (checked wanted cs >>= λ cs. Ok (cs, at.place))) is
-    ∙ made_same (wanted_nulls wanted cells) cells at.place
-    ∙ ap (λ (n : Result (Unit {0}) RowRefusal). (n >>= λ _. Ok (row_of_cells cells)) >>= λ row. Ok (row, at.place))
-    (nulls_of_row columns (fields_of schema) (values_of datum))
-    ∙ ap (λ (row : StoredRow). checked_row columns row >>= λ row. Ok (row, at.place))
-    (row_same columns (fields_of schema) (values_of datum) readable)
-
--- ---- the record of the reader
-
-module _ (schema : Schema) (columns : List Column) (wanted : List Wanted) (readable : AreReadable columns (fields_of schema))
-    (all : wanted ≡ row_wanted columns) (input : List ℕ) (place : ℕ) where
+module _ (schema : Schema) (columns : List Column) (wanted : List Wanted) (all : wanted ≡ row_wanted columns)
+    (input : List ℕ) (place : ℕ) where
   -- a row is the record of what is wanted
   pub row_known : as_row (record_at schema wanted input place) ≡ row_at schema columns input place
-  unfolding record_at row_at
-  row_known =
-      ap (λ (w : List Wanted). as_row (record_at schema w input place)) all
-      ∙ value_same columns schema readable (datum_at schema input (start place))
+  unfolding row_at
+  row_known = ap (λ (w : List Wanted). as_row (record_at schema w input place)) all
 
   taken_as : (read : Result (List Cell × ℕ) FieldRefusal) (cells : List Cell) (result : Result ℕ FieldRefusal) (after : ℕ)
       → result ≡ Ok after → Gives never (λ n. (cells, n)) result read → as_row read ≡ Ok (row_of_cells cells, after)

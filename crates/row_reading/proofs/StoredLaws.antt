@@ -21,14 +21,16 @@ use Rattle.words.specs.Steps.{bind_then, map_ok, ok_is}
 use Rattle.stored_rows.specs.Refusal.{container_refusal, schema_refusal}
 use Rattle.fields.specs.Wanted.{fields_of}
 use Rattle.stored_rows.specs.Field.{check_fields}
+use Rattle.objects.specs.Object.{Agrees}
 use Rattle.objects.specs.HeldLaws.{objects_found, objects_only}
 use Rattle.objects.specs.CountLaws.{held_counted}
 use Rattle.stored_rows.specs.declared.refusal.RowRefusal.TheVariants.{Rest}
 use Rattle.row_reading.specs.File.{row_at, check_counts, check_told, check_ids, schema_in, Opened, opened, rows_in, rows_of}
 use Rattle.stored_rows.specs.Rows.{rows_from}
-use Rattle.stored_rows.specs.Stored.{StoresRow, StoresRows, ReadsRows, AreRead}
+use Rattle.stored_rows.specs.Stored.{AreReadable, StoresRow, StoresRows, ReadsRows, AreRead}
 use Rattle.stored_rows.specs.FieldLaws.{fields_readable, fields_checked}
 use Rattle.row_reading.specs.Laws.{Laws}
+use Rattle.row_reading.specs.Wanted.{row_wanted}
 use Rattle.row_reading.proofs.StoredRows.{rows_agree}
 use Rattle.row_reading.proofs.CountLemmas.{counts_few}
 
@@ -74,6 +76,10 @@ module _ (laws : Laws) where
 
   -- ---- the rows
 
+  -- the reading of a row agrees with what its bytes store
+  agrees : (schema : Schema) (columns : List Column) → AreReadable columns (fields_of schema) → Agrees (row_at schema columns) (StoresRow columns schema)
+  agrees schema columns readable = rows_agree schema columns readable (laws.records schema (row_wanted columns))
+
   -- rows that are read are stored
   stores_rows : (bytes : List ℕ) (columns : List Column) (file : Opened) (stored : List StoredRow) → IsOpened bytes file → rows_in columns file ≡ Ok stored → StoresRows bytes columns stored
   unfolding rows_in
@@ -88,7 +94,8 @@ module _ (laws : Laws) where
         bound = is.bound;
         written = is.written;
         readable = fields_readable (fields_of schema) columns done readable;
-        blocks = objects_found (row_at schema columns) (StoresRow columns schema) (rows_agree laws.values schema columns) Rest container.blocks stored rows_read;
+        blocks = objects_found (row_at schema columns) (StoresRow columns schema) (agrees schema columns (fields_readable (fields_of schema) columns done readable))
+            Rest container.blocks stored rows_read;
       }))
 
   -- rows that are stored, and are few, are read
@@ -101,8 +108,7 @@ module _ (laws : Laws) where
       let fields = fields_checked (fields_of schema) columns stores.readable in
       let many = held_counted Stores blocks stored stores.blocks in
       let counts = counts_few blocks 0 (omega (arith, read.few, many)) in
-      let agrees = rows_agree laws.values schema columns in
-      rw (fields, counts) (objects_only (row_at schema columns) Stores agrees Rest blocks stored stores.blocks)
+      rw (fields, counts) (objects_only (row_at schema columns) Stores (agrees schema columns stores.readable) Rest blocks stored stores.blocks)
 
   -- ---- the checks
 

@@ -1,107 +1,85 @@
 -- A row of a file by the relation: what is read is stored so, and what is stored so is read.
-use Rattle.std.proofs.Common.{◌≡◌, ℕ, Bool, true, false, ◌&&◌, List, [], ◌∷◌, Ok, refl, ap, subst, ◌∙◌, arith}
-use Rattle.words.specs.Reading.{◌>>=◌, map_refusal}
+use Rattle.std.proofs.Common.{ℕ, List, [], ◌∷◌, Ok, refl, sym, ap, subst, ◌∙◌}
+use Rattle.std.specs.Prelude.{drop, map}
+use Rattle.words.specs.Reading.{map_value}
+use Rattle.words.specs.Steps.{map_ok, value_ok}
+use Rattle.words.specs.Parts.{Took}
 use Rattle.row_types.specs.declared.cell.Cell.{Cell}
 use Rattle.row_types.specs.declared.column.Column.{Column}
 use Rattle.row_types.specs.declared.row.StoredRow.{StoredRow}
 use Rattle.schema_tree.specs.declared.schema.Schema.{Schema}
-use Rattle.datum_reading.specs.declared.cursor.Cursor.{Cursor}
-use Rattle.datum_tree.specs.declared.datum.Datum.{Datum}
-use Rattle.datum_tree.specs.Value.{items_in}
-use Rattle.datum_reading.specs.Reading.{datum_at}
-use Rattle.words.specs.Parts.{Stand, Took}
-use Rattle.datum_reading.specs.Agreeing.{Passes, Agrees}
-use Rattle.objects.specs.Object.{Agrees as ObjectAgrees}
-use Rattle.datum_tree.specs.Spelling.{Spells}
-use Rattle.words.specs.Steps.{bind_then, map_ok, test_failed, ok_is}
-use Rattle.stored_rows.specs.Refusal.{datum_refusal}
-use Rattle.fields.specs.Wanted.{fields_of}
-use Rattle.row_types.specs.CellRef.{is_null}
-use Rattle.cell_reading.specs.Value.{values_of}
-use Rattle.stored_rows.specs.Row.{stored_row, check_nulls, checked_row}
+use Rattle.objects.specs.Object.{Agrees}
+use Rattle.fields.specs.Wanted.{fields_of, wanted_of}
+use Rattle.fields.specs.Record.{record_at, Stores, RecordAgrees}
+use Rattle.fields.specs.Record.{HasNoNull as WantsNoNull}
+use Rattle.stored_rows.specs.Stored.{AreReadable, HasNoNull, StoresRow}
+use Rattle.row_reading.specs.Wanted.{column_wanted, row_wanted, row_of_cells, field_refusal, as_row}
 use Rattle.row_reading.specs.File.{row_at}
-use Rattle.stored_rows.specs.Stored.{HasNoNull, StoresRow}
+use Rattle.row_reading.proofs.RowLaws.{cells_make}
 
 -- ---- nulls
 
--- of two facts that aren't both, the second is none where the first is one
-not_second : (a b : Bool) → (a && b) ≡ false → a ≡ true → b ≡ false
-not_second true b not_both one = not_both
-not_second false b not_both one = absurd cc
+-- cells with no null in a wanted field have none in a column
+nulls_stay : (columns : List Column) (cells : List Cell) → WantsNoNull (map column_wanted columns) cells → HasNoNull columns cells
+nulls_stay [] cells none = tt
+nulls_stay (column ∷ columns) [] none = tt
+nulls_stay (column ∷ columns) (cell ∷ cells) none = (none.0, nulls_stay columns cells none.1)
 
--- two facts, the second of which is none where the first is one, aren't both
-not_both : (a b : Bool) → (a ≡ true → b ≡ false) → (a && b) ≡ false
-not_both true b other = other refl
-not_both false b other = refl
+nulls_again : (columns : List Column) (cells : List Cell) → HasNoNull columns cells → WantsNoNull (map column_wanted columns) cells
+nulls_again [] cells none = tt
+nulls_again (column ∷ columns) [] none = tt
+nulls_again (column ∷ columns) (cell ∷ cells) none = (none.0, nulls_again columns cells none.1)
 
--- cells that were checked have no null in a required column
-nulls_none : (columns : List Column) (cells : List Cell) (done : Unit {0}) → check_nulls columns cells ≡ Ok done → HasNoNull columns cells
-unfolding check_nulls
-nulls_none [] cells done checked = tt
-nulls_none (column ∷ columns) [] done checked = tt
-nulls_none (column ∷ columns) (cell ∷ cells) done checked =
-    let test = test_failed (column.required && is_null cell) _ _ done checked in
-    (not_second column.required (is_null cell) test.0, nulls_none columns cells done test.1)
+no_cells : (columns : List Column) → HasNoNull columns []
+no_cells [] = tt
+no_cells (column ∷ columns) = tt
 
--- cells with no null in a required column pass the check
-none_nulls : (columns : List Column) (cells : List Cell) → HasNoNull columns cells → check_nulls columns cells ≡ Ok tt
-unfolding check_nulls
-none_nulls [] cells none = refl
-none_nulls (column ∷ columns) [] none = refl
-none_nulls (column ∷ columns) (cell ∷ cells) none = rw (not_both column.required (is_null cell) none.0) (none_nulls columns cells none.1)
-
--- a row that values store passes it
-row_checked : (columns : List Column) (row stored : StoredRow) → row ≡ stored → HasNoNull columns row.cells → checked_row columns stored ≡ Ok row
-row_checked columns row stored same none = subst (λ (s : StoredRow). checked_row columns s ≡ Ok row) same (ap (λ r. r >>= λ _. Ok row) (none_nulls columns row.cells none))
+-- the cells of columns stand behind the two of lineage
+row_nulls : (columns : List Column) (cells : List Cell) → WantsNoNull (row_wanted columns) cells → HasNoNull columns (drop 2 cells)
+row_nulls columns [] none = no_cells columns
+row_nulls columns (id ∷ []) none = no_cells columns
+row_nulls columns (id ∷ last ∷ cells) none = nulls_stay columns cells none.1.1
 
 -- ---- a row
 
--- where a row begins
-abbrev start : ℕ → Cursor
-start place = record { place = place; items = 0 }
+module _ (schema : Schema) (columns : List Column) (readable : AreReadable columns (fields_of schema)) where
+  -- a record that is stored is a row that is
+  row_stored : (cells : List Cell) (bytes : List ℕ) → Stores schema (row_wanted columns) cells bytes
+      → StoresRow columns schema (row_of_cells cells) bytes
+  row_stored cells bytes stores = record {
+    datum = stores.datum;
+    encoded = stores.encoded;
+    stored = ap row_of_cells stores.stored ∙ cells_make columns schema stores.datum readable;
+    nulls = row_nulls columns cells stores.nulls;
+  }
 
--- the row that the values store which were read
-abbrev row_of : Schema → List Column → Datum → StoredRow
-row_of schema columns datum = stored_row columns (fields_of schema) (values_of datum)
-
-module _ (agrees : (schema : Schema) → Agrees (datum_at schema) (Spells schema) items_in) where
-  -- a value that was read, and whose row was checked, is a row
-  row_is : (schema : Schema) (columns : List Column) (input : List ℕ) (place : ℕ) (value : Datum × Cursor) (row : StoredRow) → datum_at schema input (start place) ≡ Ok value → checked_row columns (row_of schema columns value.0) ≡ Ok row
-      → Took input place value.1.place (StoresRow columns schema row)
-  row_is schema columns input place value row read checked =
-      let took = (agrees schema).sound input (start place) value (omega arith) read in
-      bind_then (check_nulls columns (row_of schema columns value.0).cells) _ row checked (λ done none made.
-      let is : Took input place value.1.place (StoresRow columns schema (row_of schema columns value.0)) = record {
-        bytes = took.took.bytes;
-        stand = took.took.stand;
-        such = record {
-          datum = value.0;
-          encoded = record { spelled = took.took.such; few = omega (arith, took.counts, took.few) };
-          stored = refl;
-          nulls = nulls_none columns (row_of schema columns value.0).cells done none;
-        };
-      } in
-      subst (λ (r : StoredRow). Took input place value.1.place (StoresRow columns schema r)) (ok_is (row_of schema columns value.0) row made) is)
-
-  -- what is read is stored so
-  row_took : (schema : Schema) (columns : List Column) (input : List ℕ) (place : ℕ) (read : StoredRow × ℕ) → row_at schema columns input place ≡ Ok read → Took input place read.1 (StoresRow columns schema read.0)
-  unfolding row_at
-  row_took schema columns input place read is =
-      bind_then (map_refusal datum_refusal (datum_at schema input (start place))) _ read is (λ value value_read others.
-      bind_then (checked_row columns (row_of schema columns value.0)) _ read others (λ row checked made.
-      subst (λ (r : StoredRow × ℕ). Took input place r.1 (StoresRow columns schema r.0)) (ok_is (row, value.1.place) read made)
-      (row_is schema columns input place value row (map_ok datum_refusal (datum_at schema input (start place)) value value_read) checked)))
-
-  -- what is stored so is read
-  row_again : (schema : Schema) (columns : List Column) (input : List ℕ) (place after : ℕ) (row : StoredRow) (bytes : List ℕ) → StoresRow columns schema row bytes → Stand input place after bytes → row_at schema columns input place ≡ Ok (row, after)
-  unfolding row_at
-  row_again schema columns input place after row bytes stores stand =
-      let behind : Cursor = record { place = after; items = items_in stores.datum } in
-      let passes : Passes input (start place) behind bytes (items_in stores.datum) = record { stand = stand; counts = omega arith; few = stores.encoded.few } in
-      let read = (agrees schema).complete input (start place) behind stores.datum bytes stores.encoded.spelled passes in
-      ap (λ r. map_refusal datum_refusal r >>= λ value. checked_row columns (row_of schema columns value.0) >>= λ row. Ok (row, value.1.place)) read
-      ∙ ap (λ r. r >>= λ row. Ok (row, after)) (row_checked columns row (row_of schema columns stores.datum) stores.stored stores.nulls)
+  -- and back
+  record_stored : (row : StoredRow) (bytes : List ℕ) (stores : StoresRow columns schema row bytes)
+      → Stores schema (row_wanted columns) (wanted_of (row_wanted columns) schema stores.datum) bytes
+  record_stored row bytes stores =
+      let same = stores.stored ∙ sym (cells_make columns schema stores.datum readable) in
+      let cells = wanted_of (row_wanted columns) schema stores.datum in
+      let none : HasNoNull columns (drop 2 cells) = subst (λ (r : StoredRow). HasNoNull columns r.cells) same stores.nulls in
+      record {
+        datum = stores.datum;
+        encoded = stores.encoded;
+        stored = refl;
+        nulls = ((λ required. absurd cc), ((λ required. absurd cc), nulls_again columns (drop 2 cells) none));
+      }
 
   -- the reading of a row agrees with what a row's bytes store
-  pub rows_agree : (schema : Schema) (columns : List Column) → ObjectAgrees (row_at schema columns) (StoresRow columns schema)
-  rows_agree schema columns = record { sound = row_took schema columns; complete = row_again schema columns }
+  pub rows_agree : RecordAgrees schema (row_wanted columns) → Agrees (row_at schema columns) (StoresRow columns schema)
+  unfolding row_at
+  rows_agree agrees = record {
+    sound = λ input place taken is.
+        let make : List Cell × ℕ → StoredRow × ℕ = λ read. (row_of_cells read.0, read.1) in
+        let named = map_ok field_refusal (map_value make (record_at schema (row_wanted columns) input place)) taken is in
+        let inner = value_ok make (record_at schema (row_wanted columns) input place) taken named in
+        let took = agrees.sound input place inner.0 inner.1 in
+        subst (λ (t : StoredRow × ℕ). Took input place t.1 (StoresRow columns schema t.0)) inner.2
+        (record { bytes = took.bytes; stand = took.stand; such = row_stored inner.0.0 took.bytes took.such });
+    complete = λ input place after row bytes stores stand.
+        let cells = wanted_of (row_wanted columns) schema stores.datum in
+        let read = agrees.complete input place after cells bytes (record_stored row bytes stores) stand in
+        ap as_row read ∙ ap (λ (r : StoredRow). Ok (r, after)) (cells_make columns schema stores.datum readable ∙ sym stores.stored);
+  }

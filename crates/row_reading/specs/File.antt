@@ -10,7 +10,6 @@ use Rattle.row_types.specs.declared.row.StoredRow.{StoredRow}
 use Rattle.limits.specs.declared.which.Which.TheVariants.{FileRows}
 use Rattle.schema_tree.specs.declared.schema.Schema.{Schema}
 use Rattle.avro_schema.specs.Reading.{schema_of}
-use Rattle.datum_reading.specs.Reading.{datum_at}
 use Rattle.avro_container.specs.declared.container.Block.{Block}
 use Rattle.avro_container.specs.declared.container.Container.{Container}
 use Rattle.avro_container.specs.Header.{schema_key, bound_to}
@@ -18,21 +17,18 @@ use Rattle.avro_container.specs.Container.{container_at}
 use Rattle.objects.specs.Blocks.{count_of, objects_of}
 use Rattle.stored_rows.specs.declared.refusal.RowRefusal.{RowRefusal}
 use Rattle.stored_rows.specs.declared.refusal.RowRefusal.TheVariants.{Rest, RecordCount, IdsSpent, Limit}
-use Rattle.stored_rows.specs.Refusal.{container_refusal, schema_refusal, datum_refusal}
+use Rattle.stored_rows.specs.Refusal.{container_refusal, schema_refusal}
 use Rattle.fields.specs.Wanted.{fields_of}
+use Rattle.fields.specs.Record.{record_at}
 use Rattle.stored_rows.specs.Field.{check_fields}
-use Rattle.cell_reading.specs.Value.{values_of}
-use Rattle.stored_rows.specs.Row.{stored_row, checked_row}
 use Rattle.stored_rows.specs.Rows.{most_rows, rows_from}
+use Rattle.row_reading.specs.Wanted.{row_wanted, as_row}
 
 -- ---- a row
 
 -- a row at a place of a block's bytes, and the place after it
 unfoldable pub row_at : Schema → List Column → List ℕ → ℕ → Result (StoredRow × ℕ) RowRefusal
-row_at schema columns input place = do
-  read ← map_refusal datum_refusal (datum_at schema input (record { place = place; items = 0 }))
-  row ← checked_row columns (stored_row columns (fields_of schema) (values_of read.0))
-  Ok (row, read.1.place)
+row_at schema columns input place = as_row (record_at schema (row_wanted columns) input place)
 
 -- ---- the checks of a file
 

@@ -1,16 +1,14 @@
 -- The laws of the layers below a file of rows: what is read of the bytes of a container, of the text of a schema and of
--- the bytes of a value is what they are.
+-- the bytes of a record is what they are.
 use Rattle.std.specs.Prelude.{◌≡◌, ℕ, ◌≤◌, List, length, Ok}
 use Rattle.schema_tree.specs.declared.schema.Schema.{Schema}
 use Rattle.avro_schema.specs.Meaning.{IsSchemaText}
 use Rattle.avro_schema.specs.Reading.{schema_of}
-use Rattle.datum_tree.specs.Value.{items_in}
-use Rattle.datum_tree.specs.Spelling.{Spells}
-use Rattle.datum_reading.specs.Reading.{datum_at}
-use Rattle.datum_reading.specs.Agreeing.{Agrees}
 use Rattle.avro_container.specs.declared.container.Container.{Container}
 use Rattle.avro_container.specs.Container.{most_bytes, container_at}
 use Rattle.avro_container.specs.Format.{IsContainer}
+use Rattle.fields.specs.declared.wanted.Wanted.{Wanted}
+use Rattle.fields.specs.Record.{RecordAgrees}
 
 pub record Laws : Type 0 where
   pub container_found : (input : List ℕ) (container : Container)
@@ -19,4 +17,4 @@ pub record Laws : Type 0 where
       → IsContainer input container → length input ≤ most_bytes → container_at input ≡ Ok container
   pub schema_found : (text : List ℕ) (schema : Schema) → schema_of text ≡ Ok schema → IsSchemaText text schema
   pub schema_only : (text : List ℕ) (schema : Schema) → IsSchemaText text schema → schema_of text ≡ Ok schema
-  pub values : (schema : Schema) → Agrees (datum_at schema) (Spells schema) items_in
+  pub records : (schema : Schema) (wanted : List Wanted) → RecordAgrees schema wanted

@@ -1,6 +1,7 @@
 -- The fields that a reader of rows wants of a record: those of lineage, and then one for each column.
 -- Iceberg spec, "Column Projection"; "Reserved Field IDs".
-use Rattle.std.specs.Prelude.{ℤ, Bool, true, false, List, [], ◌∷◌, map, drop, get_or, None}
+use Rattle.std.specs.Prelude.{ℕ, ℤ, false, List, ◌∷◌, map, drop, get_or, None, Result}
+use Rattle.words.specs.Reading.{map_refusal, map_value}
 use Rattle.row_types.specs.declared.cell.Cell.{Cell}
 use Rattle.row_types.specs.declared.cell.Cell.TheVariants as cells
 use Rattle.row_types.specs.CellRef.{number_of}
@@ -40,3 +41,7 @@ abbrev pub field_refusal : FieldRefusal → RowRefusal
 field_refusal (fields.MissingField id) = Kind id
 field_refusal (fields.NoValue refusal) = Datum refusal
 field_refusal fields.Memory = Memory
+
+-- what is read of a record, as a row
+abbrev pub as_row : Result (List Cell × ℕ) FieldRefusal → Result (StoredRow × ℕ) RowRefusal
+as_row read = map_refusal field_refusal (map_value (λ read. (row_of_cells read.0, read.1)) read)

@@ -29,5 +29,5 @@ fn laws_below()
 {
     avro_container::reading_agrees();
     avro_schema::reading_agrees();
-    datum_reading::reading_agrees();
+    fields::record_agrees();
 }

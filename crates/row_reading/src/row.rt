@@ -13,7 +13,8 @@ ghost use Rattle.row_reading.specs.Reader.{IsReader, IsSlot};
 ghost use Rattle.row_reading.specs.File.{row_at};
 
 use fields::{
-    Cells, FieldRefusal, Layout, Wanted, lay_out, pass_record, take_known_record, take_record,
+    Cells, FieldRefusal, Layout, Wanted, lay_out, pass_record, record_agrees, take_known_record,
+    take_record,
 };
 use objects::Object;
 use row_types::{CellRef, Column, Kind, StoredRow};
@@ -77,10 +78,11 @@ impl<'a, 't> Object<'a> for RowReader<'t> {
     }
 
     fn agrees(&self)
+        requires right { IsReader self.now }
         ensures { Agrees (row_at self.now.layout.schema self.now.columns.now)
             (StoresRow self.now.columns.now self.now.layout.schema) }
     {
-        datum_reading::reading_agrees();
+        record_agrees();
     }
 }
 

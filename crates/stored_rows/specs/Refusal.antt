@@ -5,8 +5,6 @@ use Rattle.avro_container.specs.declared.refusal.ContainerRefusal.{ContainerRefu
 use Rattle.avro_container.specs.declared.refusal.ContainerRefusal.TheVariants as containers
 use Rattle.avro_schema.specs.declared.refusal.SchemaRefusal.{SchemaRefusal}
 use Rattle.avro_schema.specs.declared.refusal.SchemaRefusal.TheVariants as schemas
-use Rattle.datum_reading.specs.declared.refusal.DatumRefusal.{DatumRefusal}
-use Rattle.datum_reading.specs.declared.refusal.DatumRefusal.TheVariants as datums
 use Rattle.stored_rows.specs.declared.refusal.RowRefusal.{RowRefusal}
 use Rattle.stored_rows.specs.declared.refusal.RowRefusal.TheVariants.{Container, Schema, MissingColumn, Kind, Datum}
 use Rattle.stored_rows.specs.declared.refusal.RowRefusal.TheVariants.{Rest, RecordCount, IdsSpent, Limit, Memory}
@@ -42,14 +40,3 @@ schema_refusal (schemas.Form path) = Schema (schemas.Form path)
 schema_refusal (schemas.Unknown name) = Schema (schemas.Unknown name)
 schema_refusal schemas.Nesting = Schema schemas.Nesting
 schema_refusal schemas.Memory = Memory
-
--- of a row's bytes
-abbrev pub datum_refusal : DatumRefusal → RowRefusal
-datum_refusal (datums.Short place) = Datum (datums.Short place)
-datum_refusal (datums.TooLong place) = Datum (datums.TooLong place)
-datum_refusal (datums.Flag place) = Datum (datums.Flag place)
-datum_refusal (datums.Branch place) = Datum (datums.Branch place)
-datum_refusal (datums.Utf8 place) = Datum (datums.Utf8 place)
-datum_refusal (datums.Size place) = Datum (datums.Size place)
-datum_refusal (datums.Items place) = Datum (datums.Items place)
-datum_refusal datums.Memory = Memory

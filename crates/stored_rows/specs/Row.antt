@@ -1,21 +1,15 @@
 -- A row as a data file stores it, and as it is read at its position.
 -- Iceberg spec, "Row Lineage"; "Column Projection".
-use Rattle.std.specs.Prelude.{ℕ, ℤ, pos, ◌+ℤ◌, Bool, true, false, ◌&&◌, List, [], ◌∷◌, map, Option, Some, None}
-use Rattle.std.specs.Prelude.{slice_get, Result, Ok, Err, if◌then◌else◌}
-use Rattle.words.specs.Reading.{◌>>=◌}
+use Rattle.std.specs.Prelude.{ℕ, ℤ, pos, ◌+ℤ◌, List, map, Option, Some, None, slice_get}
 use Rattle.row_types.specs.declared.cell.Cell.{Cell}
 use Rattle.row_types.specs.declared.cell.Cell.TheVariants as cells
-use Rattle.row_types.specs.CellRef.{is_null, number_of}
+use Rattle.row_types.specs.CellRef.{number_of}
 use Rattle.row_types.specs.declared.column.Column.{Column}
 use Rattle.row_types.specs.declared.row.Row.{Row}
 use Rattle.row_types.specs.declared.row.StoredRow.{StoredRow}
 use Rattle.schema_tree.specs.declared.schema.Field.{Field}
-use Rattle.datum_tree.specs.declared.datum.Datum.{Datum, out-Datum}
-use Rattle.datum_tree.specs.declared.datum.Datum.TheOpen as kinds
-use Rattle.datum_tree.specs.Value.{Level}
-use Rattle.cell_reading.specs.Value.{cell_of, values_of}
-use Rattle.stored_rows.specs.declared.refusal.RowRefusal.{RowRefusal}
-use Rattle.stored_rows.specs.declared.refusal.RowRefusal.TheVariants.{Kind}
+use Rattle.datum_tree.specs.declared.datum.Datum.{Datum}
+use Rattle.cell_reading.specs.Value.{cell_of}
 use Rattle.stored_rows.specs.Field.{Found, find, row_id_field, last_updated_field}
 
 -- ---- the inheritance of lineage
@@ -58,14 +52,3 @@ stored_row columns fields values = record {
   last = number_of (cell_with fields values last_updated_field);
   cells = map (λ column. cell_with fields values column.id) columns;
 }
-
--- no required column has a null; the first one that has is told
-unfoldable pub check_nulls : List Column → List Cell → Result (Unit {0}) RowRefusal
-check_nulls [] cells = Ok tt
-check_nulls (column ∷ columns) [] = Ok tt
-check_nulls (column ∷ columns) (cell ∷ cells) =
-    if column.required && is_null cell then Err (Kind column.id) else check_nulls columns cells
-
--- a row, where no required column has a null
-abbrev pub checked_row : List Column → StoredRow → Result StoredRow RowRefusal
-checked_row columns row = check_nulls columns row.cells >>= λ _. Ok row

@@ -1,4 +1,4 @@
-use Rattle.std.proofs.Common.{◌≡◌, sym, ap, ◌∙◌, rules, SFits}
+use Rattle.std.proofs.Common.{sym, ap, ◌∙◌, rules, SFits}
 use Rattle.std.specs.Prelude.{ℤ, Option}
 use Rattle.std.specs.Int.{w64}
 use Rattle.std.proofs.lemmas.Int.{to_z-of_z}
