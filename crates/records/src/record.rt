@@ -1,15 +1,13 @@
 //! A reader of records.
 
-ghost use Rattle.std.specs.Prelude.{◌≡◌, true, List, map, IfOk};
-ghost use Rattle.std.specs.declared.result.Result.TheVariants.{Ok, Err};
+ghost use Rattle.std.specs.Prelude.{◌≡◌, ℕ, Bool, true, List, map, IfOk};
 ghost use Rattle.row_types.specs.declared.cell.Cell.{Cell as ACell};
 ghost use Rattle.row_types.specs.CellRef.{lent_cell};
 ghost use Rattle.objects.specs.Object.{Agrees};
+ghost use Rattle.fields.specs.declared.refusal.FieldRefusal.{FieldRefusal as AFieldRefusal};
 ghost use Rattle.fields.specs.Record.{IsLayout, IsWide};
-ghost use Rattle.records.specs.declared.refusal.RecordRefusal.TheVariants.{Rest};
-ghost use Rattle.records.specs.Record.{is_memory as is_no_memory, Means, value_at};
+ghost use Rattle.records.specs.Record.{Means, value_at};
 
-use crate::refusal::RecordRefusal;
 use fields::{
     Cells, FieldRefusal, Layout, pass_record, record_agrees, take_known_record, take_record,
 };
@@ -18,14 +16,43 @@ use row_types::CellRef;
 use std::alloc::{AllocError, Global};
 use std::marker::PhantomData;
 
-/// A value that is made of the wanted cells of a record.
+/// What records are: values that are made of their wanted cells.
 pub trait FromCells: Drop {
+    /// What a record is, in memory of its own.
+    type Value: Drop;
+    /// Why bytes are no such record.
+    type Refusal: Drop;
+
     /// The value of the cells.
-    ghost made: { List ACell → Self };
+    ghost made: { List ACell → Self.Value };
+
+    /// What a refusal of a record is called.
+    ghost refused: { AFieldRefusal → Self.Refusal };
+
+    /// The refusal of bytes behind the last record of a block, whose number counts from 1.
+    ghost rest: { ℕ → Self.Refusal };
+
+    /// What a refusal of a record is called.
+    fn refuse(refusal: FieldRefusal) -> Self::Refusal
+        ensures { result ≡ refused refusal };
+
+    /// The refusal of bytes behind the last record of the block, whose number counts from 1.
+    fn refuse_rest(block: u64) -> Self::Refusal
+        ensures { result ≡ rest block };
+}
+
+/// Records that can be copied into memory of their own.
+pub trait OwnedCells: FromCells {
+    /// The refusal says that memory ran out.
+    ghost is_memory: { Self.Refusal → Bool };
 
     /// The value of the cells, in memory of its own.
-    fn from_cells(alloc: Global, cells: &[CellRef<'_>]) -> Result<Self, AllocError>
-        ensures { IfOk result (λ value. value ≡ made (map lent_cell cells.now)) };
+    fn from_cells(alloc: Global, cells: &[CellRef<'_>]) -> Result<Self::Value, AllocError>
+        ensures { IfOk result (λ value. value ≡ Self.made (map lent_cell cells.now)) };
+
+    /// The refusal that says that memory ran out.
+    fn refuse_memory() -> Self::Refusal
+        ensures { is_memory result ≡ true };
 }
 
 /// A reader of the records of a layout.
@@ -38,11 +65,11 @@ pub struct Records<T: FromCells> {
 impl<'a, T: FromCells> Object<'a> for Records<T> {
     type Slot = Cells<'a>;
 
-    type Value = T;
+    type Value = T::Value;
 
-    type Refusal = RecordRefusal;
+    type Refusal = T::Refusal;
 
-    ghost at = { λ r. value_at T.made r.layout.schema r.layout.wanted.items };
+    ghost at = { λ r. value_at T.made T.refused r.layout.schema r.layout.wanted.items };
 
     ghost Spells = { λ r. Means T.made r.layout.schema r.layout.wanted.items };
 
@@ -52,24 +79,24 @@ impl<'a, T: FromCells> Object<'a> for Records<T> {
 
     ghost fits = { λ r s. IsWide r.layout s.all.items s.wanted.items };
 
-    ghost rest = { Rest };
+    ghost rest = { T.rest };
 
     fn take(
         &self,
         input: &'a [u8],
         place: usize,
         slot: &mut Cells<'a>,
-    ) -> Result<usize, RecordRefusal> {
+    ) -> Result<usize, T::Refusal> {
         match take_record(&self.layout, input, place, slot) {
             Ok(after) => Ok(after),
-            Err(refusal) => Err(RecordRefusal::Field(refusal)),
+            Err(refusal) => Err(T::refuse(refusal)),
         }
     }
 
-    fn pass(&self, input: &'a [u8], place: usize) -> Result<usize, RecordRefusal> {
+    fn pass(&self, input: &'a [u8], place: usize) -> Result<usize, T::Refusal> {
         match pass_record(&self.layout, input, place) {
             Ok(after) => Ok(after),
-            Err(refusal) => Err(RecordRefusal::Field(refusal)),
+            Err(refusal) => Err(T::refuse(refusal)),
         }
     }
 
@@ -77,30 +104,31 @@ impl<'a, T: FromCells> Object<'a> for Records<T> {
         take_known_record(&self.layout, input, place, slot)
     }
 
-    fn rest_in(&self, block: u64) -> RecordRefusal
-        ensures { result ≡ Rest block }
+    fn rest_in(&self, block: u64) -> T::Refusal
+        ensures { result ≡ T.rest block }
     {
-        RecordRefusal::Rest { block }
+        T::refuse_rest(block)
     }
 
     fn agrees(&self)
-        ensures { Agrees (value_at T.made self.now.layout.schema self.now.layout.wanted.items)
+        ensures { Agrees
+            (value_at T.made T.refused self.now.layout.schema self.now.layout.wanted.items)
             (Means T.made self.now.layout.schema self.now.layout.wanted.items) }
     {
         record_agrees();
     }
 }
 
-impl<'a, T: FromCells> Owning<'a> for Records<T> {
-    ghost is_memory = { is_no_memory };
+impl<'a, T: OwnedCells> Owning<'a> for Records<T> {
+    ghost is_memory = { T.is_memory };
 
-    fn own(&self, alloc: Global, slot: &Cells<'a>) -> Result<T, AllocError> {
+    fn own(&self, alloc: Global, slot: &Cells<'a>) -> Result<T::Value, AllocError> {
         T::from_cells(alloc, &slot.wanted)
     }
 
-    fn no_memory(&self) -> RecordRefusal
-        ensures { is_no_memory result ≡ true }
+    fn no_memory(&self) -> T::Refusal
+        ensures { T.is_memory result ≡ true }
     {
-        RecordRefusal::Field(FieldRefusal::Memory)
+        T::refuse_memory()
     }
 }

@@ -12,20 +12,23 @@ use Rattle.schema_tree.specs.declared.schema.Field.{Field}
 use Rattle.schema_tree.specs.declared.schema.Schema.{Schema}
 use Rattle.avro_container.specs.declared.container.Block.{Block}
 use Rattle.avro_container.specs.declared.container.Container.{Container}
-use Rattle.objects.specs.Stream.{Stream, unless, all}
+use Rattle.objects.specs.Object.{Reader}
+use Rattle.objects.specs.Stream.{unless, all}
 use Rattle.objects.specs.Blocks.{count_all, objects_of}
 use Rattle.objects.specs.StreamLaws.{all_checked, all_refused}
 use Rattle.objects.specs.CountLaws.{objects_counted}
+use Rattle.fields.specs.declared.layout.Layout.{Layout}
 use Rattle.fields.specs.Wanted.{fields_of}
 use Rattle.stored_rows.specs.declared.refusal.RowRefusal.{RowRefusal}
 use Rattle.stored_rows.specs.declared.refusal.RowRefusal.TheVariants.{Rest}
 use Rattle.stored_rows.specs.Refusal.{is_memory}
 use Rattle.stored_rows.specs.Field.{check_fields}
 use Rattle.stored_rows.specs.Rows.{most_rows, rows_from}
-use Rattle.row_reading.specs.declared.row.RowReader.{RowReader}
+use Rattle.row_reading.specs.Wanted.{row_wanted, row_in_record}
 use Rattle.row_reading.specs.File.{row_at, check_counts, check_told, check_ids, opened, rows_in, rows_of}
-use Rattle.row_reading.specs.Checking.{check_before_rows, check_all_rows, rows_in_blocks, HaveIds, AreRight}
-use Rattle.row_reading.specs.Checking.{rows_of_blocks, rows_opened}
+use Rattle.row_reading.specs.Checking.{check_before_rows, Rows, rows_in_blocks, check_all_rows, HaveIds, AreRight}
+use Rattle.row_reading.specs.Checking.{all_rows, rows_opened}
+use Rattle.row_reading.specs.Checked.{row_by}
 
 -- what a check answers
 abbrev pub Answer : Type 0
@@ -54,40 +57,36 @@ counts_answered columns schema blocks left answer readable left_is is =
 
 -- ---- the rows
 
--- the rows that are left, if they are those of all blocks, and how many the blocks say that they have
-module _ (columns : List Column) (schema : Schema) (blocks : List Block) (first told : Option ℤ) (rows : ℕ)
-    (left : Stream StoredRow RowRefusal) (are : left ≡ rows_in_blocks columns schema blocks) (count : rows ≡ count_all blocks) where
-  outcome_is : (answer : Answer) → outcome (all left) ≡ answer → outcome (all (rows_in_blocks columns schema blocks)) ≡ answer
-  outcome_is answer is = ap (λ (s : Stream StoredRow RowRefusal). outcome (all s)) (sym are) ∙ is
-
+-- rows of blocks, and how many the blocks say that they have
+module _ (read : Reader StoredRow RowRefusal) (blocks : List Block) (rows : Rows) (many : ℕ) (first told : Option ℤ)
+    (are : rows ≡ rows_in_blocks read blocks) (count : many ≡ count_all blocks) where
   -- a row is refused
-  pub rows_wrong : (e : RowRefusal) → outcome (all left) ≡ Err e → check_all_rows columns schema blocks first told ≡ Err e
+  pub rows_wrong : (e : RowRefusal) → outcome (all rows) ≡ Err e → check_all_rows rows first told ≡ Err e
   unfolding check_all_rows
-  rows_wrong e wrong = rw (all_refused (rows_in_blocks columns schema blocks) e (outcome_is (Err e) wrong)) refl
+  rows_wrong e wrong = rw (all_refused rows e wrong) refl
 
   -- all can be read, and they are as many
-  many : outcome (all left) ≡ Ok tt → length (rows_in_blocks columns schema blocks).objects ≡ rows
-  many right =
-      let checked = all_checked (rows_in_blocks columns schema blocks) (outcome_is (Ok tt) right) in
-      objects_counted (row_at schema columns) Rest blocks 1 checked.0 ∙ sym count
+  as_many : outcome (all rows) ≡ Ok tt → length rows.objects ≡ many
+  as_many right =
+      let none : (rows_in_blocks read blocks).fault ≡ None = ap (λ (r : Rows). r.fault) (sym are) ∙ (all_checked rows right).0 in
+      ap (λ (r : Rows). length r.objects) are ∙ (objects_counted read Rest blocks 1 none ∙ sym count)
 
-  answered : outcome (all left) ≡ Ok tt
-      → check_all_rows columns schema blocks first told ≡ (check_told told rows >>= λ _. check_ids first rows)
+  answered : outcome (all rows) ≡ Ok tt
+      → check_all_rows rows first told ≡ (check_told told many >>= λ _. check_ids first many)
   unfolding check_all_rows
   answered right =
-      let checked = all_checked (rows_in_blocks columns schema blocks) (outcome_is (Ok tt) right) in
-      rw checked.1 (ap (λ (n : ℕ). check_told told n >>= λ _. check_ids first n) (many right))
+      rw (all_checked rows right).1 (ap (λ (n : ℕ). check_told told n >>= λ _. check_ids first n) (as_many right))
 
   -- the caller says another number of rows
-  pub told_wrong : (e : RowRefusal) → outcome (all left) ≡ Ok tt → check_told told rows ≡ Err e
-      → check_all_rows columns schema blocks first told ≡ Err e
-  told_wrong e right wrong = answered right ∙ ap (λ (r : Answer). r >>= λ _. check_ids first rows) wrong
+  pub told_wrong : (e : RowRefusal) → outcome (all rows) ≡ Ok tt → check_told told many ≡ Err e
+      → check_all_rows rows first told ≡ Err e
+  told_wrong e right wrong = answered right ∙ ap (λ (r : Answer). r >>= λ _. check_ids first many) wrong
 
   -- it is the number, and the ids are as they are
-  pub ids_answered : (answer : Answer) → outcome (all left) ≡ Ok tt → check_told told rows ≡ Ok tt
-      → check_ids first rows ≡ answer → check_all_rows columns schema blocks first told ≡ answer
+  pub ids_answered : (answer : Answer) → outcome (all rows) ≡ Ok tt → check_told told many ≡ Ok tt
+      → check_ids first many ≡ answer → check_all_rows rows first told ≡ answer
   ids_answered answer right as_told ids =
-      answered right ∙ (ap (λ (r : Answer). r >>= λ _. check_ids first rows) as_told ∙ ids)
+      answered right ∙ (ap (λ (r : Answer). r >>= λ _. check_ids first many) as_told ∙ ids)
 
   -- what a test finds not to be above isn't above
   not_above : (most sum : ℤ) → int_lt most sum ≡ false → sum ≤ℤ most
@@ -107,12 +106,11 @@ module _ (columns : List Column) (schema : Schema) (blocks : List Block) (first 
       ]
 
   -- rows that passed all checks are right
-  pub rows_right : outcome (all left) ≡ Ok tt → rows ≤ most_rows → check_ids first rows ≡ Ok tt
-      → AreRight (rows_in_blocks columns schema blocks) first
+  pub rows_right : outcome (all rows) ≡ Ok tt → many ≤ most_rows → check_ids first many ≡ Ok tt → AreRight rows first
   rows_right right few ids = record {
-    right = (all_checked (rows_in_blocks columns schema blocks) (outcome_is (Ok tt) right)).0;
-    few = omega (arith, few, many right);
-    ids = subst (HaveIds first) (sym (many right)) (ids_within first rows ids);
+    right = (all_checked rows right).0;
+    few = omega (arith, few, as_many right);
+    ids = subst (HaveIds first) (sym (as_many right)) (ids_within first many ids);
   }
 
 -- ---- the rows of a file that was opened
@@ -154,39 +152,19 @@ read_passed None rows first told sequence is =
     passed_behind (check_told told (length rows)) (check_ids first (length rows)) (rows_from first sequence 0 rows) is
 read_passed (Some d) rows first told sequence is = absurd cc
 
--- the same of blocks
-pub blocks_refused : (columns : List Column) (schema : Schema) (blocks : List Block) (first : Option ℤ) (sequence : ℤ)
-    (told : Option ℤ) (e : RowRefusal) → check_all_rows columns schema blocks first told ≡ Err e
-    → rows_of_blocks columns schema blocks first sequence told ≡ Err e
-unfolding check_all_rows rows_of_blocks
-blocks_refused columns schema blocks first sequence told e refused =
-    let stream = rows_in_blocks columns schema blocks in
-    read_refused stream.fault stream.objects first told sequence e refused
+-- the same of rows that were checked
+pub all_refused_so : (rows : Rows) (first : Option ℤ) (sequence : ℤ) (told : Option ℤ) (e : RowRefusal)
+    → check_all_rows rows first told ≡ Err e → all_rows rows first sequence told ≡ Err e
+unfolding check_all_rows all_rows
+all_refused_so rows first sequence told e refused = read_refused rows.fault rows.objects first told sequence e refused
 
-pub blocks_passed : (columns : List Column) (schema : Schema) (blocks : List Block) (first : Option ℤ) (sequence : ℤ)
-    (told : Option ℤ) (left : Stream StoredRow RowRefusal) → check_all_rows columns schema blocks first told ≡ Ok tt
-    → left ≡ rows_in_blocks columns schema blocks
-    → rows_of_blocks columns schema blocks first sequence told ≡ Ok (rows_from first sequence 0 left.objects)
-unfolding check_all_rows rows_of_blocks
-blocks_passed columns schema blocks first sequence told left passed is =
-    let stream = rows_in_blocks columns schema blocks in
-    read_passed stream.fault stream.objects first told sequence passed
-    ∙ ap (λ (s : Stream StoredRow RowRefusal). Ok (rows_from first sequence 0 s.objects)) (sym is)
-
--- what was checked of a reader and a container that are these was checked of these
-pub checked_so : (reader same : RowReader) (container after : Container) (first told : Option ℤ) (answer : Answer)
-    → same ≡ reader → after ≡ container
-    → answer ≡ check_all_rows same.columns.now same.layout.schema after.blocks first told
-    → check_all_rows reader.columns.now reader.layout.schema container.blocks first told ≡ answer
-checked_so reader same container after first told answer reader_is container_is is =
-    sym (is ∙ ap₂ (λ (r : RowReader) (c : Container). check_all_rows r.columns.now r.layout.schema c.blocks first told) reader_is container_is)
-
--- and the rows of these are the rows of these
-pub rows_so : (reader same : RowReader) (container after : Container) → same ≡ reader → after ≡ container
-    → rows_in_blocks same.columns.now same.layout.schema after.blocks
-    ≡ rows_in_blocks reader.columns.now reader.layout.schema container.blocks
-rows_so reader same container after reader_is container_is =
-    ap₂ (λ (r : RowReader) (c : Container). rows_in_blocks r.columns.now r.layout.schema c.blocks) reader_is container_is
+pub all_passed : (rows left : Rows) (first : Option ℤ) (sequence : ℤ) (told : Option ℤ)
+    → check_all_rows rows first told ≡ Ok tt → left ≡ rows
+    → all_rows rows first sequence told ≡ Ok (rows_from first sequence 0 left.objects)
+unfolding check_all_rows all_rows
+all_passed rows left first sequence told passed is =
+    read_passed rows.fault rows.objects first told sequence passed
+    ∙ ap (λ (s : Rows). Ok (rows_from first sequence 0 s.objects)) (sym is)
 
 -- a file is refused before its rows
 pub before_refused : (columns : List Column) (first : Option ℤ) (sequence : ℤ) (told : Option ℤ) (container : Container)
@@ -196,15 +174,19 @@ unfolding rows_opened
 before_refused columns first sequence told container schema e refused = rw refused refl
 
 -- or has the rows of its blocks
-pub opened_given : {X : Type 0} (view : X → List Row) (columns same : List Column) (container after : Container)
-    (schema other : Schema) (first : Option ℤ) (sequence : ℤ) (told : Option ℤ) (result : Result X RowRefusal)
-    → check_before_rows columns schema container.blocks ≡ Ok tt → same ≡ columns → after ≡ container → other ≡ schema
-    → Gives is_memory view result (rows_of_blocks same other after.blocks first sequence told)
+pub opened_given : {X : Type 0} (view : X → List Row) (columns : List Column) (container after : Container)
+    (schema : Schema) (layout : Layout) (first : Option ℤ) (sequence : ℤ) (told : Option ℤ) (result : Result X RowRefusal)
+    → check_before_rows columns schema container.blocks ≡ Ok tt → layout.schema ≡ schema
+    → layout.wanted.items ≡ row_wanted columns → after ≡ container
+    → Gives is_memory view result (all_rows (rows_in_blocks (row_by layout) after.blocks) first sequence told)
     → Gives is_memory view result (rows_opened columns first sequence told (container, schema))
 unfolding rows_opened
-opened_given view columns same container after schema other first sequence told result passed columns_are container_is schema_is given =
-    let whole : rows_of_blocks same other after.blocks first sequence told
-    ≡ rows_opened columns first sequence told (container, schema) = rw (columns_are, container_is, schema_is, passed) refl in
+opened_given view columns container after schema layout first sequence told result passed schema_is wanted_is container_is given =
+    let same = ap₂ row_in_record schema_is wanted_is in
+    let rows : rows_in_blocks (row_by layout) after.blocks ≡ rows_in_blocks (row_at schema columns) container.blocks =
+    ap₂ (λ (read : Reader StoredRow RowRefusal) (c : Container). rows_in_blocks read c.blocks) same container_is in
+    let whole : all_rows (rows_in_blocks (row_by layout) after.blocks) first sequence told
+    ≡ rows_opened columns first sequence told (container, schema) = rw (rows, passed) refl in
     subst (λ (read : Result (List Row) RowRefusal). Gives is_memory view result read) whole given
 
 -- ---- the whole file
@@ -226,7 +208,7 @@ unopened bytes columns first sequence told e refused = rw refused refl
 as_opened : (bytes : List ℕ) (columns : List Column) (first : Option ℤ) (sequence : ℤ) (told : Option ℤ)
     (container : Container) (schema : Schema) → opened bytes ≡ Ok (container, schema)
     → rows_of bytes columns first sequence told ≡ rows_opened columns first sequence told (container, schema)
-unfolding rows_of rows_in rows_opened rows_of_blocks check_before_rows
+unfolding rows_of rows_in rows_opened all_rows check_before_rows
 as_opened bytes columns first sequence told container schema file =
     rw file (parted (check_fields (fields_of schema) columns) (check_counts 0 container.blocks)
     (objects_of (row_at schema columns) Rest container.blocks)

@@ -1,14 +1,15 @@
 -- What is seen of the rows of a file that was checked.
-use Rattle.std.proofs.Common.{◌≡◌, ℕ, ◌+◌, List, [], ◌∷◌, length, refl, sym, ap, ap₂, subst, ◌∙◌, arith}
+use Rattle.std.proofs.Common.{◌≡◌, ℕ, ◌+◌, ◌≤◌, List, [], ◌∷◌, length, refl, sym, ap, ap₂, subst, ◌∙◌, arith}
 use Rattle.std.specs.Prelude.{ℤ, Option}
+use Rattle.std.proofs.lemmas.List.{length-map}
 use Rattle.row_types.specs.declared.row.StoredRow.{StoredRow}
 use Rattle.stored_rows.specs.Row.{row_id_of, row_last_of}
 use Rattle.stored_rows.specs.Rows.{rows_from}
 use Rattle.objects.specs.declared.blocks.Rest.{Rest as TheRest}
 use Rattle.fields.specs.declared.taking.Cells.{Cells}
-use Rattle.row_reading.specs.declared.row.RowReader.{RowReader}
+use Rattle.fields.specs.declared.layout.Layout.{Layout}
 use Rattle.row_reading.specs.Checking.{HaveIds}
-use Rattle.row_reading.specs.Checked.{Shown, rows_left, row_in, shown_of}
+use Rattle.row_reading.specs.Checked.{Shown, rows_left, row_in, shown_of, AreReady}
 
 -- no row is left to be seen
 pub none_shown : (first : Option ℤ) (sequence : ℤ) (position : ℕ) (left : List StoredRow) → left ≡ []
@@ -36,15 +37,21 @@ pub ids_stay : (first : Option ℤ) (position : ℕ) (left : List StoredRow) (ro
 ids_stay first position left row others is ids = subst (HaveIds first) (one_less position left row others is) ids
 
 -- if no row is left, none was before, and what is seen stays
-pub none_seen : (reader other : RowReader) (rest after : TheRest) (slot same : Cells) (first : Option ℤ) (sequence : ℤ)
+pub none_seen : (layout other : Layout) (rest after : TheRest) (slot same : Cells) (first : Option ℤ) (sequence : ℤ)
     (position : ℕ) (id : Option ℤ) (last : ℤ) (seen : Shown)
-    → shown_of reader rest slot first sequence position id last ≡ seen
-    → (rows_left reader rest).objects ≡ [] → (rows_left other after).objects ≡ [] → same ≡ slot
+    → shown_of layout rest slot first sequence position id last ≡ seen
+    → (rows_left layout rest).objects ≡ [] → (rows_left other after).objects ≡ [] → same ≡ slot
     → (seen.left ≡ []) × (shown_of other after same first sequence position id last ≡ seen)
-none_seen reader other rest after slot same first sequence position id last seen is none none_after slot_is = (
-  ap (λ (s : Shown). s.left) (sym is) ∙ none_shown first sequence position (rows_left reader rest).objects none,
+none_seen layout other rest after slot same first sequence position id last seen is none none_after slot_is = (
+  ap (λ (s : Shown). s.left) (sym is) ∙ none_shown first sequence position (rows_left layout rest).objects none,
   ap₂ (λ (cells : Cells) (left : List StoredRow). record {
     row = record { id = id; last = last; cells = (row_in cells).cells };
     left = rows_from first sequence position left;
   }) slot_is (none_after ∙ sym none) ∙ is,
 )
+
+-- a slot has a cell for the id and one for the last change
+pub has_lineage : (layout : Layout) (rest : TheRest) (slot : Cells) → AreReady layout rest slot → 2 ≤ length slot.wanted.items
+has_lineage layout rest slot ready =
+    let sources = ready.slot_wide.each ∙ (ap length ready.layout_right.sources ∙ length-map layout.wanted.items _) in
+    omega (arith, sources, ready.lineage)

@@ -1,19 +1,19 @@
 -- A row of a file by the relation: what is read is stored so, and what is stored so is read.
-use Rattle.std.proofs.Common.{ℕ, List, [], ◌∷◌, Ok, refl, sym, ap, subst, ◌∙◌}
+use Rattle.std.proofs.Common.{◌≡◌, ℕ, List, [], ◌∷◌, refl, sym, ap, subst, ◌∙◌}
 use Rattle.std.specs.Prelude.{drop, map}
-use Rattle.words.specs.Reading.{map_value}
-use Rattle.words.specs.Steps.{map_ok, value_ok}
-use Rattle.words.specs.Parts.{Took}
+use Rattle.words.specs.Parts.{took_as}
 use Rattle.row_types.specs.declared.cell.Cell.{Cell}
 use Rattle.row_types.specs.declared.column.Column.{Column}
 use Rattle.row_types.specs.declared.row.StoredRow.{StoredRow}
 use Rattle.schema_tree.specs.declared.schema.Schema.{Schema}
 use Rattle.objects.specs.Object.{Agrees}
 use Rattle.fields.specs.Wanted.{fields_of, wanted_of}
-use Rattle.fields.specs.Record.{record_at, Stores, RecordAgrees}
+use Rattle.fields.specs.Record.{RecordAgrees}
 use Rattle.fields.specs.Record.{HasNoNull as WantsNoNull}
 use Rattle.stored_rows.specs.Stored.{AreReadable, HasNoNull, StoresRow}
-use Rattle.row_reading.specs.Wanted.{column_wanted, row_wanted, row_of_cells, field_refusal, as_row}
+use Rattle.records.specs.Record.{Means}
+use Rattle.records.specs.MeansLaws.{means}
+use Rattle.row_reading.specs.Wanted.{column_wanted, row_wanted, row_of_cells, field_refusal}
 use Rattle.row_reading.specs.File.{row_at}
 use Rattle.row_reading.proofs.RowLaws.{cells_make}
 
@@ -43,43 +43,44 @@ row_nulls columns (id ∷ last ∷ cells) none = nulls_stay columns cells none.1
 -- ---- a row
 
 module _ (schema : Schema) (columns : List Column) (readable : AreReadable columns (fields_of schema)) where
-  -- a record that is stored is a row that is
-  row_stored : (cells : List Cell) (bytes : List ℕ) → Stores schema (row_wanted columns) cells bytes
-      → StoresRow columns schema (row_of_cells cells) bytes
-  row_stored cells bytes stores = record {
-    datum = stores.datum;
-    encoded = stores.encoded;
-    stored = ap row_of_cells stores.stored ∙ cells_make columns schema stores.datum readable;
-    nulls = row_nulls columns cells stores.nulls;
-  }
+  -- a row that a record means is stored
+  row_meant : (row : StoredRow) (bytes : List ℕ) → Means row_of_cells schema (row_wanted columns) row bytes
+      → StoresRow columns schema row bytes
+  row_meant row bytes means =
+      let stores = means.stored in
+      let same : row ≡ row_of_cells means.cells = means.value_is in
+      record {
+        datum = stores.datum;
+        encoded = stores.encoded;
+        stored = same ∙ (ap row_of_cells stores.stored ∙ cells_make columns schema stores.datum readable);
+        nulls = subst (λ (r : StoredRow). HasNoNull columns r.cells) (sym same) (row_nulls columns means.cells stores.nulls);
+      }
 
   -- and back
-  record_stored : (row : StoredRow) (bytes : List ℕ) (stores : StoresRow columns schema row bytes)
-      → Stores schema (row_wanted columns) (wanted_of (row_wanted columns) schema stores.datum) bytes
-  record_stored row bytes stores =
+  row_means : (row : StoredRow) (bytes : List ℕ) → StoresRow columns schema row bytes
+      → Means row_of_cells schema (row_wanted columns) row bytes
+  row_means row bytes stores =
       let same = stores.stored ∙ sym (cells_make columns schema stores.datum readable) in
       let cells = wanted_of (row_wanted columns) schema stores.datum in
       let none : HasNoNull columns (drop 2 cells) = subst (λ (r : StoredRow). HasNoNull columns r.cells) same stores.nulls in
       record {
-        datum = stores.datum;
-        encoded = stores.encoded;
-        stored = refl;
-        nulls = ((λ required. absurd cc), ((λ required. absurd cc), nulls_again columns (drop 2 cells) none));
+        cells = cells;
+        value_is = same;
+        stored = record {
+          datum = stores.datum;
+          encoded = stores.encoded;
+          stored = refl;
+          nulls = ((λ required. absurd cc), ((λ required. absurd cc), nulls_again columns (drop 2 cells) none));
+        };
       }
 
   -- the reading of a row agrees with what a row's bytes store
   pub rows_agree : RecordAgrees schema (row_wanted columns) → Agrees (row_at schema columns) (StoresRow columns schema)
-  unfolding row_at
-  rows_agree agrees = record {
-    sound = λ input place taken is.
-        let make : List Cell × ℕ → StoredRow × ℕ = λ read. (row_of_cells read.0, read.1) in
-        let named = map_ok field_refusal (map_value make (record_at schema (row_wanted columns) input place)) taken is in
-        let inner = value_ok make (record_at schema (row_wanted columns) input place) taken named in
-        let took = agrees.sound input place inner.0 inner.1 in
-        subst (λ (t : StoredRow × ℕ). Took input place t.1 (StoresRow columns schema t.0)) inner.2
-        (record { bytes = took.bytes; stand = took.stand; such = row_stored inner.0.0 took.bytes took.such });
-    complete = λ input place after row bytes stores stand.
-        let cells = wanted_of (row_wanted columns) schema stores.datum in
-        let read = agrees.complete input place after cells bytes (record_stored row bytes stores) stand in
-        ap as_row read ∙ ap (λ (r : StoredRow). Ok (r, after)) (cells_make columns schema stores.datum readable ∙ sym stores.stored);
-  }
+  rows_agree agrees =
+      let read = means row_of_cells field_refusal schema (row_wanted columns) agrees in
+      record {
+        sound = λ input place taken is.
+            took_as input place taken.1 (λ bytes stored. row_meant taken.0 bytes stored) (read.sound input place taken is);
+        complete = λ input place after row bytes stores stand.
+            read.complete input place after row bytes (row_means row bytes stores) stand;
+      }

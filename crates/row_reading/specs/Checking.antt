@@ -7,6 +7,7 @@ use Rattle.row_types.specs.declared.row.Row.{Row}
 use Rattle.row_types.specs.declared.row.StoredRow.{StoredRow}
 use Rattle.schema_tree.specs.declared.schema.Schema.{Schema}
 use Rattle.avro_container.specs.declared.container.Block.{Block}
+use Rattle.objects.specs.Object.{Reader}
 use Rattle.objects.specs.Stream.{Stream, all}
 use Rattle.objects.specs.Blocks.{blocks_from}
 use Rattle.fields.specs.Wanted.{fields_of}
@@ -22,32 +23,35 @@ check_before_rows columns schema blocks = do
   _ ← check_fields (fields_of schema) columns
   check_counts 0 blocks
 
--- the rows of blocks up to the first refusal
-abbrev pub rows_in_blocks : List Column → Schema → List Block → Stream StoredRow RowRefusal
-rows_in_blocks columns schema blocks = blocks_from (row_at schema columns) Rest 1 blocks
+-- rows up to the first refusal
+abbrev pub Rows : Type 0
+Rows = Stream StoredRow RowRefusal
 
--- all rows are right, as many as the caller says, and with ids that end in time
-unfoldable pub check_all_rows : List Column → Schema → List Block → Option ℤ → Option ℤ → Result (Unit {0}) RowRefusal
-check_all_rows columns schema blocks first told = do
-  rows ← all (rows_in_blocks columns schema blocks)
-  _ ← check_told told (length rows)
-  check_ids first (length rows)
+-- those of all blocks
+abbrev pub rows_in_blocks : Reader StoredRow RowRefusal → List Block → Rows
+rows_in_blocks read blocks = blocks_from read Rest 1 blocks
+
+-- all of them are right, as many as the caller says, and with ids that end in time
+unfoldable pub check_all_rows : Rows → Option ℤ → Option ℤ → Result (Unit {0}) RowRefusal
+check_all_rows rows first told = do
+  stored ← all rows
+  _ ← check_told told (length stored)
+  check_ids first (length stored)
 
 -- the ids of so many rows are longs if the file has a first one
 abbrev pub HaveIds : Option ℤ → ℕ → Type 0
-HaveIds first rows = IfSome first (λ id. (id +ℤ pos rows) <ℤ pos (2 ^ 63))
+HaveIds first many = IfSome first (λ id. (id +ℤ pos many) <ℤ pos (2 ^ 63))
 
--- these rows have no refusal, are no more than a file may have, and have ids that are longs
-pub record AreRight (rows : Stream StoredRow RowRefusal) (first : Option ℤ) : Type 0 where
+-- they have no refusal, are no more than a file may have, and have ids that are longs
+pub record AreRight (rows : Rows) (first : Option ℤ) : Type 0 where
   pub right : rows.fault ≡ None
   pub few : length rows.objects ≤ most_rows
   pub ids : HaveIds first (length rows.objects)
 
--- the rows of a file of which all was checked that comes before them
-unfoldable pub rows_of_blocks : List Column → Schema → List Block → Option ℤ → ℤ → Option ℤ
-    → Result (List Row) RowRefusal
-rows_of_blocks columns schema blocks first sequence told = do
-  stored ← all (rows_in_blocks columns schema blocks)
+-- all of them, read at their positions
+unfoldable pub all_rows : Rows → Option ℤ → ℤ → Option ℤ → Result (List Row) RowRefusal
+all_rows rows first sequence told = do
+  stored ← all rows
   _ ← check_told told (length stored)
   _ ← check_ids first (length stored)
   Ok (rows_from first sequence 0 stored)
@@ -56,4 +60,4 @@ rows_of_blocks columns schema blocks first sequence told = do
 unfoldable pub rows_opened : List Column → Option ℤ → ℤ → Option ℤ → Opened → Result (List Row) RowRefusal
 rows_opened columns first sequence told (container, schema) = do
   _ ← check_before_rows columns schema container.blocks
-  rows_of_blocks columns schema container.blocks first sequence told
+  all_rows (rows_in_blocks (row_at schema columns) container.blocks) first sequence told

@@ -14,21 +14,21 @@ use Rattle.avro_container.specs.declared.container.Block.{Block}
 use Rattle.avro_container.specs.declared.container.Container.{Container}
 use Rattle.avro_container.specs.Header.{schema_key, bound_to}
 use Rattle.avro_container.specs.Container.{container_at}
+use Rattle.objects.specs.Object.{Reader}
 use Rattle.objects.specs.Blocks.{count_of, objects_of}
 use Rattle.stored_rows.specs.declared.refusal.RowRefusal.{RowRefusal}
 use Rattle.stored_rows.specs.declared.refusal.RowRefusal.TheVariants.{Rest, RecordCount, IdsSpent, Limit}
 use Rattle.stored_rows.specs.Refusal.{container_refusal, schema_refusal}
 use Rattle.fields.specs.Wanted.{fields_of}
-use Rattle.fields.specs.Record.{record_at}
 use Rattle.stored_rows.specs.Field.{check_fields}
 use Rattle.stored_rows.specs.Rows.{most_rows, rows_from}
-use Rattle.row_reading.specs.Wanted.{row_wanted, as_row}
+use Rattle.row_reading.specs.Wanted.{row_wanted, row_in_record}
 
 -- ---- a row
 
 -- a row at a place of a block's bytes, and the place after it
-unfoldable pub row_at : Schema → List Column → List ℕ → ℕ → Result (StoredRow × ℕ) RowRefusal
-row_at schema columns input place = as_row (record_at schema (row_wanted columns) input place)
+abbrev pub row_at : Schema → List Column → Reader StoredRow RowRefusal
+row_at schema columns = row_in_record schema (row_wanted columns)
 
 -- ---- the checks of a file
 

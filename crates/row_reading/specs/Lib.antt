@@ -1,5 +1,4 @@
 pub mod Wanted
-pub mod Reader
 pub mod File
 pub mod Checking
 pub mod Checked

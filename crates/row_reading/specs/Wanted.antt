@@ -1,18 +1,20 @@
 -- The fields that a reader of rows wants of a record: those of lineage, and then one for each column.
 -- Iceberg spec, "Column Projection"; "Reserved Field IDs".
-use Rattle.std.specs.Prelude.{ℕ, ℤ, false, List, ◌∷◌, map, drop, get_or, None, Result}
-use Rattle.words.specs.Reading.{map_refusal, map_value}
+use Rattle.std.specs.Prelude.{ℤ, false, List, ◌∷◌, map, drop, get_or, None}
 use Rattle.row_types.specs.declared.cell.Cell.{Cell}
 use Rattle.row_types.specs.declared.cell.Cell.TheVariants as cells
 use Rattle.row_types.specs.CellRef.{number_of}
 use Rattle.row_types.specs.declared.column.Column.{Column}
 use Rattle.row_types.specs.declared.column.Kind.TheVariants as kinds
 use Rattle.row_types.specs.declared.row.StoredRow.{StoredRow}
+use Rattle.schema_tree.specs.declared.schema.Schema.{Schema}
+use Rattle.objects.specs.Object.{Reader}
 use Rattle.fields.specs.declared.wanted.Wanted.{Wanted}
 use Rattle.fields.specs.declared.refusal.FieldRefusal.{FieldRefusal}
 use Rattle.fields.specs.declared.refusal.FieldRefusal.TheVariants as fields
 use Rattle.stored_rows.specs.declared.refusal.RowRefusal.{RowRefusal}
 use Rattle.stored_rows.specs.declared.refusal.RowRefusal.TheVariants.{Kind, Datum, Memory}
+use Rattle.records.specs.Record.{value_at}
 use Rattle.stored_rows.specs.Field.{row_id_field, last_updated_field}
 
 -- a field of longs, which may be missing
@@ -42,6 +44,6 @@ field_refusal (fields.MissingField id) = Kind id
 field_refusal (fields.NoValue refusal) = Datum refusal
 field_refusal fields.Memory = Memory
 
--- what is read of a record, as a row
-abbrev pub as_row : Result (List Cell × ℕ) FieldRefusal → Result (StoredRow × ℕ) RowRefusal
-as_row read = map_refusal field_refusal (map_value (λ read. (row_of_cells read.0, read.1)) read)
+-- the row of the record at a place, and the place behind it
+abbrev pub row_in_record : Schema → List Wanted → Reader StoredRow RowRefusal
+row_in_record schema wanted = value_at row_of_cells field_refusal schema wanted

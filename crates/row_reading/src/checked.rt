@@ -6,29 +6,29 @@ ghost use Rattle.words.specs.Reading.{Gives};
 ghost use Rattle.row_types.specs.CellRef.{lent_cell};
 ghost use Rattle.row_types.specs.declared.row.StoredRow.{StoredRow as AStoredRow};
 ghost use Rattle.objects.specs.Blocks.{count_all};
-ghost use Rattle.objects.specs.Left.{IsReady};
 ghost use Rattle.fields.specs.Wanted.{fields_of};
+ghost use Rattle.fields.specs.Record.{IsLayout};
 ghost use Rattle.stored_rows.specs.Refusal.{is_memory};
 ghost use Rattle.stored_rows.specs.Field.{check_fields};
 ghost use Rattle.stored_rows.specs.Rows.{most_rows, rows_from};
 ghost use Rattle.stored_rows.specs.Stored.{StoresRows, ReadsRows, AreRead};
-ghost use Rattle.row_reading.specs.Reader.{IsReader, IsSlot};
-ghost use Rattle.row_reading.specs.File.{check_counts, rows_of};
-ghost use Rattle.row_reading.specs.Checking.{check_before_rows, check_all_rows, AreRight};
-ghost use Rattle.row_reading.specs.Checking.{rows_in_blocks, rows_of_blocks, rows_opened};
-ghost use Rattle.row_reading.specs.Checked.{rows_left};
+ghost use Rattle.row_reading.specs.File.{rows_of};
+ghost use Rattle.row_reading.specs.Checking.{check_before_rows, rows_in_blocks, check_all_rows};
+ghost use Rattle.row_reading.specs.Checking.{AreRight, all_rows, rows_opened};
+ghost use Rattle.row_reading.specs.Checked.{row_by, rows_left, AreReady};
 
 use crate::counts::{check_counts, check_ids, check_told};
 use crate::law::reading_agrees;
 use crate::opening::open_file;
-use crate::row::{RowReader, own_cells, own_id, own_last, reader_of};
+use crate::row::{FileRow, own_cells, own_id, own_last, row_layout};
 use avro_container::Walk;
-use fields::{fields_of, nulls};
+use fields::{Layout, fields_of, nulls};
 use objects::Objects;
+use records::Records;
 use row_types::{CellRef, Column, Columns};
 use schema_tree::Schema;
 use std::alloc::{AllocError, Global};
-use std::marker::Model;
+use std::marker::{Model, PhantomData};
 use stored_rows::{RowRefusal, check_fields, row_id, row_last};
 
 /// The rows of a file, all of which were checked, shown one after the other. Their texts and bytes
@@ -36,7 +36,7 @@ use stored_rows::{RowRefusal, check_fields, row_id, row_last};
 /// shown, and the list of those behind it.
 #[derive(Drop)]
 pub struct CheckedRows<'a> {
-    rows: Objects<'a, RowReader<'a>>,
+    rows: Objects<'a, Records<FileRow>>,
     first: Option<i64>,
     sequence: i64,
     /// How many rows were shown.
@@ -51,10 +51,11 @@ impl<'a> Model for CheckedRows<'a> {
 
     ghost Value = { Shown };
 
-    ghost view = { λ r.
-        shown_of r.rows.reader r.rows.rest r.rows.slot r.first r.sequence r.position r.id r.last };
+    ghost view = { λ r. shown_of r.rows.reader.layout r.rows.rest r.rows.slot
+        r.first r.sequence r.position r.id r.last };
 
-    ghost invariant = { λ r. IsChecked r.rows.reader r.rows.rest r.rows.slot r.first r.position };
+    ghost invariant = { λ r.
+        IsChecked r.rows.reader.layout r.rows.rest r.rows.slot r.first r.position };
 }
 
 impl<'a> CheckedRows<'a> {
@@ -164,8 +165,8 @@ fn check_opened<'a>(
 {
     let rows = check_before_rows(&mut walk, &schema, columns)?;
     walk.restart();
-    let reader = reader_of(alloc, schema, columns)?;
-    show_checked(alloc, walk, reader, rows, first, sequence, told)
+    let layout = row_layout(alloc, schema, columns)?;
+    show_checked(alloc, walk, layout, rows, first, sequence, told)
 }
 
 /// How many rows the blocks of the file say that they have, if the columns can be read from the
@@ -192,21 +193,22 @@ fn check_before_rows(
 fn show_checked<'a>(
     alloc: Global,
     walk: Walk<'a>,
-    reader: RowReader<'a>,
+    layout: Layout,
     told_rows: u64,
     first: Option<i64>,
     sequence: i64,
     told: Option<i64>,
 ) -> Result<CheckedRows<'a>, RowRefusal>
-    requires right { IsReader reader }
+    requires layout { IsLayout layout }
+    requires lineage { 2 ≤ length layout.wanted.items }
     requires start { walk.left ≡ walk.whole.blocks }
     requires rows { (told_rows ≡ count_all walk.whole.blocks) × (told_rows ≤ most_rows) }
     requires fits { length walk.whole.blocks < 2 ^ 63 }
     ensures exact { Gives is_memory (λ rows. rows.left) result
-        (rows_of_blocks reader.entry.columns.now reader.entry.layout.schema walk.entry.whole.blocks
+        (all_rows (rows_in_blocks (row_by layout) walk.entry.whole.blocks)
         first sequence told) }
 {
-    let mut rows = rows_at_start(alloc, walk, reader)?;
+    let mut rows = rows_at_start(alloc, walk, layout)?;
     check_all_rows(&mut rows, told_rows, first, told)?;
     Ok(CheckedRows {
         rows,
@@ -222,43 +224,46 @@ fn show_checked<'a>(
 fn rows_at_start<'a>(
     alloc: Global,
     walk: Walk<'a>,
-    reader: RowReader<'a>,
-) -> Result<Objects<'a, RowReader<'a>>, AllocError>
-    requires right { IsReader reader }
+    layout: Layout,
+) -> Result<Objects<'a, Records<FileRow>>, AllocError>
+    requires layout { IsLayout layout }
+    requires lineage { 2 ≤ length layout.wanted.items }
     requires start { walk.left ≡ walk.whole.blocks }
     requires fits { length walk.whole.blocks < 2 ^ 63 }
-    ensures ready { IfOk result (λ rows. IsReady IsReader IsSlot rows.reader rows.rest rows.slot) }
-    ensures left { IfOk result (λ rows. rows_left rows.reader rows.rest
-        ≡ rows_in_blocks rows.reader.columns.now rows.reader.layout.schema rows.rest.walk.whole.blocks) }
-    ensures reader { IfOk result (λ rows. rows.reader ≡ reader.entry) }
+    ensures ready { IfOk result (λ rows. AreReady rows.reader.layout rows.rest rows.slot) }
+    ensures left { IfOk result (λ rows. rows_left rows.reader.layout rows.rest
+        ≡ rows_in_blocks (row_by rows.reader.layout) rows.rest.walk.whole.blocks) }
+    ensures layout { IfOk result (λ rows. rows.reader.layout ≡ layout) }
     ensures whole { IfOk result (λ rows. rows.rest.walk.whole ≡ walk.entry.whole) }
 {
-    let slot = nulls(alloc, &reader.layout)?;
+    let slot = nulls(alloc, &layout)?;
+    let reader = Records {
+        layout,
+        of: PhantomData,
+    };
     Ok(Objects::new(reader, walk, slot))
 }
 
 /// Whether all rows of the file are right, as many as the caller says, and with ids that end in
 /// time. None of them is shown then.
 fn check_all_rows<'a>(
-    rows: &mut Objects<'a, RowReader<'a>>,
+    rows: &mut Objects<'a, Records<FileRow>>,
     told_rows: u64,
     first: Option<i64>,
     told: Option<i64>,
 ) -> Result<(), RowRefusal>
-    requires ready { IsReady IsReader IsSlot rows.old.reader rows.old.rest rows.old.slot }
-    requires left { rows_left rows.old.reader rows.old.rest
-        ≡ rows_in_blocks rows.old.reader.columns.now rows.old.reader.layout.schema
-        rows.old.rest.walk.whole.blocks }
+    requires ready { AreReady rows.old.reader.layout rows.old.rest rows.old.slot }
+    requires left { rows_left rows.old.reader.layout rows.old.rest
+        ≡ rows_in_blocks (row_by rows.old.reader.layout) rows.old.rest.walk.whole.blocks }
     requires rows { (told_rows ≡ count_all rows.old.rest.walk.whole.blocks)
         × (told_rows ≤ most_rows) }
     requires fits { length rows.old.rest.walk.whole.blocks < 2 ^ 63 }
-    ensures exact { result ≡ check_all_rows rows.old.reader.columns.now
-        rows.old.reader.layout.schema rows.old.rest.walk.whole.blocks first told }
-    ensures ready { IsReady IsReader IsSlot rows.new.reader rows.new.rest rows.new.slot }
-    ensures left { OnOk result (rows_left rows.new.reader rows.new.rest
-        ≡ rows_left rows.old.reader rows.old.rest) }
-    ensures right { OnOk result (AreRight (rows_left rows.new.reader rows.new.rest) first) }
-    ensures reader { rows.new.reader ≡ rows.old.reader }
+    ensures exact { result
+        ≡ check_all_rows (rows_left rows.old.reader.layout rows.old.rest) first told }
+    ensures ready { AreReady rows.new.reader.layout rows.new.rest rows.new.slot }
+    ensures left { OnOk result (rows_left rows.new.reader.layout rows.new.rest
+        ≡ rows_left rows.old.reader.layout rows.old.rest) }
+    ensures right { OnOk result (AreRight (rows_left rows.new.reader.layout rows.new.rest) first) }
 {
     rows.check()?;
     check_told(told, told_rows)?;

@@ -1,116 +1,61 @@
-//! A reader of one row, by the fields of its columns.
+//! What a row is, as a record of the fields of its columns.
 
-ghost use Rattle.std.specs.Prelude.{◌≡◌, ◌≤◌, length, map, Ok, IfOk};
-ghost use Rattle.row_types.specs.CellRef.{lent_cell, number_of};
-ghost use Rattle.objects.specs.Object.{Agrees};
-ghost use Rattle.fields.specs.Wanted.{fields_of};
+ghost use Rattle.std.specs.Prelude.{◌≡◌, ◌≤◌, length, map, IfOk};
+ghost use Rattle.row_types.specs.CellRef.{lent_cell};
+ghost use Rattle.fields.specs.Record.{IsLayout};
 ghost use Rattle.stored_rows.specs.declared.refusal.RowRefusal.TheVariants.{Rest};
-ghost use Rattle.stored_rows.specs.Field.{check_fields};
-ghost use Rattle.stored_rows.specs.Stored.{StoresRow};
 ghost use Rattle.row_reading.specs.Wanted.{number_wanted, column_wanted, row_wanted, row_of_cells};
 ghost use Rattle.row_reading.specs.Wanted.{field_refusal};
-ghost use Rattle.row_reading.specs.Reader.{IsReader, IsSlot};
-ghost use Rattle.row_reading.specs.File.{row_at};
 
-use fields::{
-    Cells, FieldRefusal, Layout, Wanted, lay_out, pass_record, record_agrees, take_known_record,
-    take_record,
-};
-use objects::Object;
+use fields::{Cells, FieldRefusal, Layout, Wanted, lay_out};
+use records::FromCells;
 use row_types::{CellRef, Column, Kind, StoredRow};
 use schema_tree::Schema;
 use std::alloc::{AllocError, Global};
 use stored_rows::{LAST_UPDATED_FIELD, ROW_ID_FIELD, RowRefusal};
 
-/// A reader of the rows of a file, for a table of these columns. Avro spec, "Records".
+/// The rows of a data file as records: an id, a last change, and a cell for each column.
+/// Avro spec, "Records".
 #[derive(Drop)]
-pub struct RowReader<'t> {
-    pub columns: &'t [Column],
-    pub layout: Layout,
-}
+pub struct FileRow;
 
-impl<'a, 't> Object<'a> for RowReader<'t> {
-    type Slot = Cells<'a>;
-
+impl FromCells for FileRow {
     type Value = StoredRow;
 
     type Refusal = RowRefusal;
 
-    ghost at = { λ r. row_at r.layout.schema r.columns.now };
+    ghost made = { row_of_cells };
 
-    ghost Spells = { λ r. StoresRow r.columns.now r.layout.schema };
-
-    ghost held = { λ s. row_of_cells (map lent_cell s.wanted.items) };
-
-    ghost right = { IsReader };
-
-    ghost fits = { IsSlot };
+    ghost refused = { field_refusal };
 
     ghost rest = { Rest };
 
-    fn take(
-        &self,
-        input: &'a [u8],
-        place: usize,
-        slot: &mut Cells<'a>,
-    ) -> Result<usize, RowRefusal> {
-        match take_record(&self.layout, input, place, slot) {
-            Ok(after) => Ok(after),
-            Err(refusal) => Err(field_refusal(refusal)),
+    fn refuse(refusal: FieldRefusal) -> RowRefusal
+        ensures { result ≡ field_refusal refusal }
+    {
+        match refusal {
+            FieldRefusal::MissingField { id } => RowRefusal::Kind { id },
+            FieldRefusal::NoValue(refusal) => RowRefusal::Datum(refusal),
+            FieldRefusal::Memory => RowRefusal::Memory,
         }
     }
 
-    fn pass(&self, input: &'a [u8], place: usize) -> Result<usize, RowRefusal> {
-        match pass_record(&self.layout, input, place) {
-            Ok(after) => Ok(after),
-            Err(refusal) => Err(field_refusal(refusal)),
-        }
-    }
-
-    fn take_known(&self, input: &'a [u8], place: usize, slot: &mut Cells<'a>) -> usize {
-        take_known_record(&self.layout, input, place, slot)
-    }
-
-    fn rest_in(&self, block: u64) -> RowRefusal
+    fn refuse_rest(block: u64) -> RowRefusal
         ensures { result ≡ Rest block }
     {
         RowRefusal::Rest { block }
     }
-
-    fn agrees(&self)
-        requires right { IsReader self.now }
-        ensures { Agrees (row_at self.now.layout.schema self.now.columns.now)
-            (StoresRow self.now.columns.now self.now.layout.schema) }
-    {
-        record_agrees();
-    }
 }
 
-/// What a refusal of a record is called.
-fn field_refusal(refusal: FieldRefusal) -> RowRefusal
-    ensures { result ≡ field_refusal refusal }
-{
-    match refusal {
-        FieldRefusal::MissingField { id } => RowRefusal::Kind { id },
-        FieldRefusal::NoValue(refusal) => RowRefusal::Datum(refusal),
-        FieldRefusal::Memory => RowRefusal::Memory,
-    }
-}
-
-/// A reader of the rows of a file with the schema, which has what the columns need.
-pub fn reader_of<'t>(
-    alloc: Global,
-    schema: Schema,
-    columns: &'t [Column],
-) -> Result<RowReader<'t>, AllocError>
-    requires readable { check_fields (fields_of schema) columns.now ≡ Ok tt }
-    ensures right { IfOk result IsReader }
-    ensures schema { IfOk result (λ reader. reader.layout.schema ≡ schema) }
-    ensures columns { IfOk result (λ reader. reader.columns.now ≡ columns.now) }
+/// How the rows of a file with the schema are read. It has what the columns need.
+pub fn row_layout(alloc: Global, schema: Schema, columns: &[Column]) -> Result<Layout, AllocError>
+    ensures right { IfOk result IsLayout }
+    ensures schema { IfOk result (λ layout. layout.schema ≡ schema) }
+    ensures wanted { IfOk result (λ layout. layout.wanted.items ≡ row_wanted columns.now) }
 {
     let wanted = row_wanted(alloc, columns)?;
     match lay_out(alloc, schema, wanted) {
-        Ok(layout) => Ok(RowReader { columns, layout }),
+        Ok(layout) => Ok(layout),
         Err(_) => Err(AllocError),
     }
 }

@@ -1,10 +1,7 @@
-use Rattle.std.proofs.Common.{◌≡◌, sym, subst, ◌∙◌, rules}
+use Rattle.std.proofs.Common.{◌≡◌, sym, subst, rules}
 use Rattle.std.proofs.lemmas.Result.{err_from_is_err_and}
-use Rattle.objects.specs.Stream.{Stream}
-use Rattle.row_types.specs.declared.row.StoredRow.{StoredRow}
-use Rattle.stored_rows.specs.declared.refusal.RowRefusal.{RowRefusal}
-use Rattle.row_reading.specs.Checking.{AreRight}
-use Rattle.row_reading.specs.Checked.{rows_left}
+use Rattle.row_reading.specs.Checking.{Rows, AreRight}
+use Rattle.row_reading.specs.Checked.{row_by, rows_left}
 use Rattle.row_reading.proofs.CheckingLemmas.{rows_wrong, told_wrong, ids_answered, rows_right}
 use Rattle.row_reading.proofs.checked.check_all_rows.Goals as goal
 
@@ -12,41 +9,42 @@ pub returns-in_err-check-clause-exact : goal.returns-in_err-check-clause-exact
 returns-in_err-check-clause-exact c =
     let p = err_from_is_err_and c.from_residual.result c.from_residual.ensures.1 in
     let rows = c.args.rows.now in
-    let wrong = rows_wrong rows.reader.columns.now rows.reader.layout.schema rows.rest.walk.whole.blocks c.args.first c.args.told c.args.told_rows
-    (rows_left rows.reader rows.rest) c.requires.left c.requires.rows.0 c.in_err-check.field-0.0 c.in_err-check.ensures.exact in
+    let layout = rows.reader.layout in
+    let wrong = rows_wrong (row_by layout) rows.rest.walk.whole.blocks (rows_left layout rows.rest) c.args.told_rows c.args.first c.args.told
+    c.requires.left c.requires.rows.0 c.in_err-check.field-0.0 c.in_err-check.ensures.exact in
     rw (p.1, p.2) (sym wrong)
 
 pub returns-in_err-check_told-clause-exact : goal.returns-in_err-check_told-clause-exact
 returns-in_err-check_told-clause-exact c =
     let p = err_from_is_err_and c.from_residual-in_err-check_told.result c.from_residual-in_err-check_told.ensures.1 in
     let rows = c.args.rows.now in
-    let wrong = told_wrong rows.reader.columns.now rows.reader.layout.schema rows.rest.walk.whole.blocks c.args.first c.args.told c.args.told_rows
-    (rows_left rows.reader rows.rest) c.requires.left c.requires.rows.0 c.in_err-check_told.field-0.0 c.in_ok-check.ensures.exact
-    (sym c.in_err-check_told.ensures) in
+    let layout = rows.reader.layout in
+    let wrong = told_wrong (row_by layout) rows.rest.walk.whole.blocks (rows_left layout rows.rest) c.args.told_rows c.args.first c.args.told
+    c.requires.left c.requires.rows.0 c.in_err-check_told.field-0.0 c.in_ok-check.ensures.exact (sym c.in_err-check_told.ensures) in
     rw (p.1, p.2) (sym wrong)
 
 pub returns-in_err-check_ids-clause-exact : goal.returns-in_err-check_ids-clause-exact
 returns-in_err-check_ids-clause-exact c =
     let p = err_from_is_err_and c.from_residual-in_err-check_ids.result c.from_residual-in_err-check_ids.ensures.1 in
     let rows = c.args.rows.now in
-    let wrong = ids_answered rows.reader.columns.now rows.reader.layout.schema rows.rest.walk.whole.blocks c.args.first c.args.told c.args.told_rows
-    (rows_left rows.reader rows.rest) c.requires.left c.requires.rows.0 _ c.in_ok-check.ensures.exact (sym c.in_ok-check_told.ensures)
-    (sym c.in_err-check_ids.ensures) in
+    let layout = rows.reader.layout in
+    let wrong = ids_answered (row_by layout) rows.rest.walk.whole.blocks (rows_left layout rows.rest) c.args.told_rows c.args.first c.args.told
+    c.requires.left c.requires.rows.0 _ c.in_ok-check.ensures.exact (sym c.in_ok-check_told.ensures) (sym c.in_err-check_ids.ensures) in
     rw (p.1, p.2) (sym wrong)
 
 pub returns-clause-exact : goal.returns-clause-exact
 returns-clause-exact c =
     let rows = c.args.rows.now in
-    sym (ids_answered rows.reader.columns.now rows.reader.layout.schema rows.rest.walk.whole.blocks c.args.first c.args.told c.args.told_rows
-    (rows_left rows.reader rows.rest) c.requires.left c.requires.rows.0 _ c.in_ok-check.ensures.exact (sym c.in_ok-check_told.ensures)
-    (sym c.in_ok-check_ids.ensures))
+    let layout = rows.reader.layout in
+    sym (ids_answered (row_by layout) rows.rest.walk.whole.blocks (rows_left layout rows.rest) c.args.told_rows c.args.first c.args.told
+    c.requires.left c.requires.rows.0 _ c.in_ok-check.ensures.exact (sym c.in_ok-check_told.ensures) (sym c.in_ok-check_ids.ensures))
 
 pub returns-clause-right : goal.returns-clause-right
 returns-clause-right c =
     let rows = c.args.rows.now in
+    let layout = rows.reader.layout in
     let after = c.restart.new.self in
-    let same : rows_left after.reader after.rest ≡ rows_left rows.reader rows.rest = search rules in
-    let right = rows_right rows.reader.columns.now rows.reader.layout.schema rows.rest.walk.whole.blocks c.args.first c.args.told c.args.told_rows
-    (rows_left rows.reader rows.rest) c.requires.left c.requires.rows.0 c.in_ok-check.ensures.exact c.requires.rows.1
-    (sym c.in_ok-check_ids.ensures) in
-    subst (λ (left : Stream StoredRow RowRefusal). AreRight left c.args.first) (sym (same ∙ c.requires.left)) right
+    let same : rows_left after.reader.layout after.rest ≡ rows_left layout rows.rest = search rules in
+    let right = rows_right (row_by layout) rows.rest.walk.whole.blocks (rows_left layout rows.rest) c.args.told_rows c.args.first c.args.told
+    c.requires.left c.requires.rows.0 c.in_ok-check.ensures.exact c.requires.rows.1 (sym c.in_ok-check_ids.ensures) in
+    subst (λ (left : Rows). AreRight left c.args.first) (sym same) right

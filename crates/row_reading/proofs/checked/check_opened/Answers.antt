@@ -19,10 +19,9 @@ pub returns : goal.returns
 returns c =
     let fits : SFits w64 c.args.sequence = search rules in
     let view = λ (rows : Shown). rows.left in
-    let reader = c.in_ok-reader.reader in
     let whole = c.restart.ensures.whole ∙ c.in_ok-rows.ensures.whole in
     record {
-      exact = opened_given view c.args.columns.now reader.columns.now c.args.walk.whole _ c.args.schema reader.layout.schema c.args.first
-          c.args.sequence c.args.told c.show_checked.result c.in_ok-rows.ensures.exact c.in_ok-reader.ensures.columns whole
-          c.in_ok-reader.ensures.schema (simp to_z-of_z at c.show_checked.ensures.exact);
+      exact = opened_given view c.args.columns.now c.args.walk.whole _ c.args.schema c.in_ok-layout.layout c.args.first c.args.sequence
+          c.args.told c.show_checked.result c.in_ok-rows.ensures.exact c.in_ok-layout.ensures.schema c.in_ok-layout.ensures.wanted whole
+          (simp to_z-of_z at c.show_checked.ensures.exact);
     }

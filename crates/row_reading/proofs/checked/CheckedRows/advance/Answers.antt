@@ -13,7 +13,7 @@ returns-then-not-advance_known-clause-end c =
     let seen = c.self.inside in
     let after = c.advance_known.new.self in
     let ended = c.if-not-advance_known.ensures in
-    none_seen seen.rows.reader after.reader seen.rows.rest after.rest seen.rows.slot after.slot seen.first seen.sequence seen.position seen.id
+    none_seen seen.rows.reader.layout after.reader.layout seen.rows.rest after.rest seen.rows.slot after.slot seen.first seen.sequence seen.position seen.id
     seen.last c.args.self.now c.self.view_is ended.end.0 ended.end.1 ended.slot
 
 pub returns-clause-shown : goal.returns-clause-shown
@@ -28,7 +28,7 @@ returns-clause-shown c =
     let id = c.row_id-self-inside.ensures ∙ ap (λ (o : Option ℤ). row_id_of seen.first o seen.position) own_id in
     let told = simp to_z-of_z at c.row_last-self-inside.ensures in
     let last = told ∙ ap (λ (o : Option ℤ). row_last_of o seen.sequence) own_last in
-    let shown = row_shown seen.first seen.sequence seen.position (rows_left seen.rows.reader seen.rows.rest).objects row
-    (rows_left after.reader after.rest).objects c.row_id-self-inside.result c.row_last-self-inside.result
+    let shown = row_shown seen.first seen.sequence seen.position (rows_left seen.rows.reader.layout seen.rows.rest).objects row
+    (rows_left after.reader.layout after.rest).objects c.row_id-self-inside.result c.row_last-self-inside.result
     c.if-not-advance_known.ensures.shown id last in
     simp to_z-of_z (sym (ap (λ (s : Shown). s.left) c.self.view_is) ∙ shown)
