@@ -1,6 +1,5 @@
 pub mod OutputLemmas
 pub mod LineLemmas
-pub mod TextLemmas
 pub mod PrintLemmas
 pub mod RunLemmas
 pub mod RowsLemmas

@@ -81,6 +81,12 @@ begins_held None now waiting waits piece p = tt
 begins_held (Some xs) None waiting waits piece p = absurd p
 begins_held (Some xs) (Some ys) waiting waits piece p = (waits ++ piece, ap (λ (l : List ℕ). l ++ piece) (sym (append-nil (xs ++ waiting)) ∙ sym p) ∙ append_assoc ys waits piece)
 
+-- room was made for the piece, and it waits there
+pub waits_there : (before mid : Option (List ℕ)) (waiting waits now piece : List ℕ) → Appends (shown before waiting) (shown mid waits) [] → now ≡ waits ++ piece → Appends (shown before waiting) (shown mid now) piece
+waits_there before mid waiting waits now piece made is =
+    subst (λ (l : List ℕ). Appends (shown before waiting) (shown mid l) piece) (sym is)
+    (appends_then (shown before waiting) (shown mid waits) (shown mid (waits ++ piece)) [] piece made (waits_more mid waits piece))
+
 -- ---- texts put one behind another through the buffer
 
 -- one text is shown, and then another is put

@@ -1,16 +1,22 @@
--- A text that is put piece by piece: row by row, cell by cell, byte by byte.
-use Rattle.std.proofs.Common.{◌≡◌, ℕ, ◌+◌, ◌<◌, ◌≤◌, List, [], ◌∷◌, ◌++◌, length, get_or, drop, map, Option, refl}
-use Rattle.std.proofs.Common.{sym, ap, ◌∙◌, subst, append_assoc}
+-- A text that is put piece by piece: row by row, cell by cell, part by part.
+use Rattle.std.proofs.Common.{◌≡◌, ℕ, ℤ, ◌+◌, ◌<◌, ◌≤◌, List, [], ◌∷◌, ◌++◌, length, get_or, drop, map, Option, refl}
+use Rattle.std.proofs.Common.{sym, ap, ◌∙◌, subst, arith, append_assoc}
 use Rattle.std.specs.List.{flat_map}
+use Rattle.std.specs.Fmt.{signed_decimal}
 use Rattle.std.specs.Io.KnownBytes.{Appends}
 use Rattle.std.proofs.lemmas.List.{append-nil, drop_more, drop_all}
+use Rattle.std.proofs.lemmas.Grind.{flat_map-append}
 use Rattle.hex.specs.Hex.{encode_lower, encode_with}
 use Rattle.row_types.specs.declared.row.Row.{Row}
-use Rattle.row_pred.specs.Cells.{spaced_text}
+use Rattle.pieces.specs.Number.{optional_text}
+use Rattle.row_pred.specs.Cells.{spaced_text, cells_text}
 use Rattle.row_types.specs.declared.cell_ref.CellRef.{CellRef}
 use Rattle.row_types.specs.CellRef.{lent_cell}
 use Rattle.lineage_cli.specs.Output.{AppendsFront}
-use Rattle.lineage_cli.specs.Text.{row_line, lines}
+use Rattle.pieces.specs.Literal.{escape}
+use Rattle.lineage_cli.specs.declared.output.Form.{Form}
+use Rattle.lineage_cli.specs.declared.output.Form.TheVariants.{Escaped, Digits}
+use Rattle.lineage_cli.specs.Text.{spaced, row_line, lines, part_text}
 use Rattle.lineage_cli.proofs.OutputLemmas.{appends_none, appends_then, begins_then, begins_more}
 
 -- what was put so far, and what is still to put, are the text
@@ -41,17 +47,25 @@ pub begun_whole : (start now : Option (List ℕ)) (rest text : List ℕ) → res
 begun_whole start now rest text none begun =
     subst (λ (l : List ℕ). Appends start now l) (sym (append-nil begun.before) ∙ (ap (λ (l : List ℕ). begun.before ++ l) (sym none) ∙ begun.whole)) begun.so_far
 
--- ---- byte by byte
+-- ---- part by part
 
--- the digits of a byte, and those of the bytes behind it
-pub digits_next : (bytes : List ℕ) (at : ℕ) (piece : List ℕ) → at < length bytes → piece ≡ encode_lower (get_or bytes at 0 ∷ []) → encode_lower (drop at bytes) ≡ piece ++ encode_lower (drop (at + 1) bytes)
+-- the digits of bytes, and those of the bytes behind them
+digits_more : (part behind : List ℕ) → encode_lower (part ++ behind) ≡ encode_lower part ++ encode_lower behind
 unfolding encode_with
-digits_next bytes at piece lt is = rw (drop_more bytes at 0 lt, is) refl
+digits_more [] behind = refl
+digits_more (byte ∷ part) behind = rw (digits_more part behind) refl
 
--- no byte is left
-pub digits_end : (bytes : List ℕ) (at : ℕ) → length bytes ≤ at → encode_lower (drop at bytes) ≡ []
+-- a part, and those behind it
+pub parts_next : (form : Form) (rest part behind : List ℕ) → rest ≡ part ++ behind → part_text form rest ≡ part_text form part ++ part_text form behind
+parts_next Escaped rest part behind is = rw is (flat_map-append escape part behind)
+parts_next Digits rest part behind is = rw is (digits_more part behind)
+
+-- no part is left
+pub parts_end : (form : Form) (rest : List ℕ) → length rest ≤ 0 → part_text form rest ≡ []
 unfolding encode_with
-digits_end bytes at le = rw (drop_all at bytes le) refl
+parts_end Escaped [] none = refl
+parts_end Digits [] none = refl
+parts_end form (byte ∷ rest) none = absurd (omega (arith, none))
 
 -- ---- cell by cell
 
@@ -65,6 +79,16 @@ cells_end cells at le = ap (λ (l : List CellRef). flat_map spaced_text (map len
 
 -- ---- row by row
 
+-- what stands before the cells of a row
+abbrev pub front_text : Option ℤ → ℤ → List ℕ
+front_text id last = spaced (optional_text id) ++ spaced (signed_decimal last)
+
+-- a row's line: what stands before its cells, these, and the end of the line
+pub line_of : (row : Row) (id : Option ℤ) (last : ℤ) → id ≡ row.id → last ≡ row.last
+    → row_line row ≡ front_text id last ++ (cells_text row.cells ++ 10 ∷ [])
+line_of row id last id-is last-is =
+    rw (id-is, last-is) (sym (append_assoc (spaced (optional_text row.id)) (spaced (signed_decimal row.last)) (cells_text row.cells ++ 10 ∷ [])))
+
 -- a row's line, and those of the rows behind it
 pub lines_next : (left : List Row) (row : Row) (others : List Row) → left ≡ row ∷ others → lines left ≡ row_line row ++ lines others
 lines_next left row others is = ap lines is
@@ -76,5 +100,3 @@ lines_end left none = ap lines none
 pub ruleset cell_by_cell = (begun_none, begun_whole, cells_end)
 
 pub ruleset row_by_row = (begun_none, begun_whole, lines_end)
-
-pub ruleset byte_by_byte = (begun_none, begun_whole, digits_end)

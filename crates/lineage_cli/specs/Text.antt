@@ -2,9 +2,13 @@
 use Rattle.std.specs.Prelude.{ℕ, List, ◌++◌, codes}
 use Rattle.std.specs.Fmt.{signed_decimal}
 use Rattle.std.specs.List.{flat_map}
+use Rattle.hex.specs.Hex.{encode_lower}
 use Rattle.row_types.specs.declared.row.Row.{Row}
 use Rattle.pieces.specs.Number.{optional_text}
+use Rattle.pieces.specs.Literal.{escape}
 use Rattle.row_pred.specs.Cells.{cells_text}
+use Rattle.lineage_cli.specs.declared.output.Form.{Form}
+use Rattle.lineage_cli.specs.declared.output.Form.TheVariants.{Escaped, Digits}
 
 -- a piece, and a space behind it
 abbrev pub spaced : List ℕ → List ℕ
@@ -18,3 +22,8 @@ row_line row =
 -- a line for each row
 abbrev pub lines : List Row → List ℕ
 lines rows = flat_map row_line rows
+
+-- a part of a long cell: of a text as it stands between quotes, of bytes in hexadecimal
+abbrev pub part_text : Form → List ℕ → List ℕ
+part_text Escaped part = flat_map escape part
+part_text Digits part = encode_lower part

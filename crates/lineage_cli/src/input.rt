@@ -43,8 +43,8 @@ pub fn read_all<S: Source>(
     read_into(alloc, input, &mut room, most)
 }
 
-/// So many zero bytes.
-fn zeros(alloc: Global, count: usize) -> Result<Vec<u8>, AllocError>
+/// So many zero bytes. An `Err` says that memory ran out.
+pub fn zeros(alloc: Global, count: usize) -> Result<Vec<u8>, AllocError>
     ensures { IfOk result (λ room. length room.items ≡ count) }
 {
     vec![in alloc; 0; count]

@@ -1,13 +1,99 @@
 //! Writing text to a sink: whole pieces, and through one buffer.
 
-ghost use Rattle.std.specs.Prelude.{◌≡◌, ◌+◌, ◌≤◌, [], length, OnOk, IsErrOf};
+ghost use Rattle.std.specs.Prelude.{◌≡◌, ◌+◌, ◌*◌, ◌≤◌, ℕ, List, [], ◌++◌, length, take};
+ghost use Rattle.std.specs.Prelude.{IfOk, OnOk, IsErrOf};
+ghost use Rattle.std.specs.Fmt.{signed_decimal};
 ghost use Rattle.lt_port.specs.Faults.{HasCause};
+ghost use Rattle.cell_text.specs.Cell.{cell_text, most_bytes as most_bytes_of};
+ghost use Rattle.row_types.specs.CellRef.{lent_cell};
 ghost use Rattle.lineage_cli.specs.Output.{Puts, Shows};
+ghost use Rattle.lineage_cli.specs.Text.{part_text};
 
+use crate::input::zeros;
+use cell_text::{put_cell, put_digits, put_escaped, put_number, put_piece};
 use lt_port::{PortError, Sink};
+use row_types::CellRef;
+use std::alloc::{AllocError, Global};
+use std::marker::Model;
 
-/// The bytes that wait in a buffer at most.
-const BUFFER_BYTES: usize = 65_536;
+/// How many bytes wait in a buffer at most.
+pub const BUFFER_BYTES: usize = 65_536;
+
+/// How the bytes of a long cell are printed: as the text between quotes, or as digits.
+#[derive(Clone, Copy)]
+pub enum Form {
+    Escaped,
+    Digits,
+}
+
+/// The bytes that wait to be written, in room that is made once. Contracts see the list of them.
+#[derive(Drop)]
+pub struct Buffer {
+    room: Vec<u8>,
+    /// How many bytes of the room wait.
+    used: usize,
+}
+
+impl Model for Buffer {
+    ghost use Rattle.std.specs.Prelude.{◌≡◌, ◌≤◌, ℕ, List, length, take};
+    ghost use Rattle.lineage_cli.specs.declared.output.TheConstants.{BUFFER_BYTES};
+
+    ghost Value = { List ℕ };
+
+    ghost view = { λ b. take b.used b.room.items };
+
+    ghost invariant = { λ b. (b.used ≤ length b.room.items)
+        × (length b.room.items ≡ BUFFER_BYTES) };
+}
+
+impl Buffer {
+    /// A buffer in which nothing waits. An `Err` says that memory ran out.
+    pub fn new(alloc: Global) -> Result<Buffer, AllocError>
+        ensures { IfOk result (λ buffer. buffer ≡ []) }
+    {
+        let room = zeros(alloc, BUFFER_BYTES)?;
+        Ok(Buffer { room, used: 0 })
+    }
+
+    /// Puts the piece behind what waits.
+    #[inline(always)]
+    pub fn push(&mut self, piece: &[u8])
+        requires fits { length self.old + length piece.now ≤ BUFFER_BYTES }
+        ensures put { self.new ≡ self.old ++ piece.now }
+    {
+        self.used = put_piece(&mut self.room, self.used, piece);
+    }
+
+    /// Puts the number in decimal behind what waits.
+    #[inline(always)]
+    pub fn push_number(&mut self, number: i64)
+        requires fits { length self.old + 20 ≤ BUFFER_BYTES }
+        ensures put { self.new ≡ self.old ++ signed_decimal number }
+        ensures within { length self.new ≤ length self.old + 20 }
+    {
+        self.used = put_number(&mut self.room, self.used, number);
+    }
+
+    /// Puts the cell behind what waits.
+    #[inline(always)]
+    pub fn push_cell(&mut self, cell: CellRef<'_>)
+        requires fits { length self.old + most_bytes_of (lent_cell cell) ≤ BUFFER_BYTES }
+        ensures put { self.new ≡ self.old ++ cell_text (lent_cell cell.entry) }
+    {
+        self.used = put_cell(&mut self.room, self.used, cell);
+    }
+
+    /// Puts a part of a long cell behind what waits.
+    pub fn push_part(&mut self, form: Form, part: &[u8])
+        requires fits { length self.old + 2 * length part.now ≤ BUFFER_BYTES }
+        ensures put { self.new ≡ self.old ++ part_text form part.now }
+    {
+        self.used = match form {
+            Form::Escaped => put_escaped(&mut self.room, self.used, part),
+            Form::Digits => put_digits(&mut self.room, self.used, part),
+        };
+    }
+}
 
 /// Writes the piece, all of it.
 pub fn write_all<W: Sink>(out: &mut W, piece: &[u8]) -> Result<(), PortError>
@@ -22,50 +108,45 @@ pub fn write_all<W: Sink>(out: &mut W, piece: &[u8]) -> Result<(), PortError>
     Ok(())
 }
 
-/// Puts the piece behind what waits in the buffer, which is written first where it has no room for
-/// it.
-pub fn put<W: Sink>(out: &mut W, buffer: &mut Vec<u8>, piece: &[u8]) -> Result<(), PortError>
-    ensures text { Shows (W.written out.old) buffer.old.items
-        (W.written out.new) buffer.new.items result
-        piece.now }
+/// Puts the piece behind what waits in the buffer. What waits is written first if there is no room
+/// for the piece.
+pub fn put<W: Sink>(out: &mut W, buffer: &mut Buffer, piece: &[u8]) -> Result<(), PortError>
+    requires fits { length piece.now ≤ BUFFER_BYTES }
+    ensures text { Shows (W.written out.old) buffer.old
+        (W.written out.new) buffer.new result piece.now }
     ensures cause { HasCause (W.faults out.old) (W.faults out.new)
         (IsErrOf result PortError.Failed) }
 {
-    if piece.len() >= BUFFER_BYTES {
-        flush(out, buffer)?;
-        return write_all(out, piece);
-    }
     make_room(out, buffer, piece.len())?;
-    match buffer.extend_from_slice(piece) {
-        Ok(()) => Ok(()),
-        Err(_) => Err(PortError::Memory),
-    }
-}
-
-/// Writes what waits in the buffer.
-pub fn flush<W: Sink>(out: &mut W, buffer: &mut Vec<u8>) -> Result<(), PortError>
-    ensures text { Puts (W.written out.old) (W.written out.new) result buffer.old.items }
-    ensures emptied { OnOk result (buffer.new.items ≡ []) }
-    ensures cause { HasCause (W.faults out.old) (W.faults out.new)
-        (IsErrOf result PortError.Failed) }
-{
-    write_all(out, buffer)?;
-    buffer.clear();
+    buffer.push(piece);
     Ok(())
 }
 
-/// Writes what waits in the buffer where it leaves no room for so many bytes more.
-fn make_room<W: Sink>(out: &mut W, buffer: &mut Vec<u8>, size: usize) -> Result<(), PortError>
-    requires { size ≤ BUFFER_BYTES }
-    ensures text { Shows (W.written out.old) buffer.old.items
-        (W.written out.new) buffer.new.items result
-        [] }
-    ensures room { OnOk result (length buffer.new.items + size ≤ BUFFER_BYTES) }
+/// Writes what waits in the buffer if there is no room for so many bytes more.
+#[inline(always)]
+pub fn make_room<W: Sink>(out: &mut W, buffer: &mut Buffer, size: usize) -> Result<(), PortError>
+    requires fits { size ≤ BUFFER_BYTES }
+    ensures text { Shows (W.written out.old) buffer.old
+        (W.written out.new) buffer.new result [] }
+    ensures room { OnOk result (length buffer.new + size ≤ BUFFER_BYTES) }
     ensures cause { HasCause (W.faults out.old) (W.faults out.new)
         (IsErrOf result PortError.Failed) }
 {
-    if buffer.len() >= BUFFER_BYTES || size > BUFFER_BYTES - buffer.len() {
+    if size > BUFFER_BYTES - buffer.used {
         return flush(out, buffer);
     }
+    Ok(())
+}
+
+/// Writes what waits in the buffer.
+#[inline(never)]
+pub fn flush<W: Sink>(out: &mut W, buffer: &mut Buffer) -> Result<(), PortError>
+    ensures text { Puts (W.written out.old) (W.written out.new) result buffer.old }
+    ensures emptied { OnOk result (buffer.new ≡ []) }
+    ensures cause { HasCause (W.faults out.old) (W.faults out.new)
+        (IsErrOf result PortError.Failed) }
+{
+    write_all(out, &buffer.room[..buffer.used])?;
+    buffer.used = 0;
     Ok(())
 }

@@ -5,6 +5,7 @@
 //! | `running` | a run in a table: its words and its input, and how it ends |
 //! | `command_lines` | words that ask for no command |
 //! | `files` | `rows` of data files, with their lines or their refusals |
+//! | `long_cells` | `rows` of data files with cells that are longer than the buffer |
 //! | `lineage` | the ids and the last changes in the lines of `rows` |
 //! | `audits` | `audit` of reports |
 //! | `outside` | calls that fail or move few bytes, and inputs at their limits |
@@ -19,6 +20,8 @@ mod command_lines;
 mod files;
 #[cfg(test)]
 mod lineage;
+#[cfg(test)]
+mod long_cells;
 #[cfg(test)]
 mod outside;
 #[cfg(test)]

@@ -20,6 +20,8 @@ pub(crate) enum Part {
     Text(&'static str),
     /// So many bytes that are 0.
     Zeros(usize),
+    /// So many times these bytes.
+    Times(usize, &'static [u8]),
     /// The header of a data file: these pairs, and the marker of 16 zero bytes.
     Header(Pairs),
     /// A block: these bytes are its count, its size and its rows, and the marker is behind them.
@@ -166,6 +168,7 @@ fn put_part(bytes: &mut Vec<u8>, part: &Part) -> Result<(), AllocError> {
         Part::Raw(these) => bytes.extend_from_slice(these),
         Part::Text(text) => bytes.extend_from_slice(text.as_bytes()),
         Part::Zeros(count) => put_zeros(bytes, *count),
+        Part::Times(count, these) => put_times(bytes, *count, these),
         Part::Header(pairs) => put_header(bytes, pairs),
         Part::Block(these) => {
             bytes.extend_from_slice(these)?;
@@ -178,6 +181,14 @@ fn put_part(bytes: &mut Vec<u8>, part: &Part) -> Result<(), AllocError> {
 fn put_zeros(bytes: &mut Vec<u8>, count: usize) -> Result<(), AllocError> {
     for _ in 0..count {
         bytes.push(0)?;
+    }
+    Ok(())
+}
+
+/// Puts these bytes so many times behind the bytes.
+fn put_times(bytes: &mut Vec<u8>, count: usize, these: &[u8]) -> Result<(), AllocError> {
+    for _ in 0..count {
+        bytes.extend_from_slice(these)?;
     }
     Ok(())
 }

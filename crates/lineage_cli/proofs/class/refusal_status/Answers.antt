@@ -1,8 +1,5 @@
 use Rattle.std.proofs.Common.{rules}
 use Rattle.lineage_cli.proofs.class.refusal_status.Goals as goal
 
-pub returns-in-Input : goal.returns-in-Input
-returns-in-Input c = search rules
-
 pub returns-in-Rule : goal.returns-in-Rule
 returns-in-Rule c = search rules

@@ -1,17 +1,13 @@
 use Rattle.std.proofs.lemmas.Result.{err_from_is_err_and}
 use Rattle.std.proofs.Common.{[]}
-use Rattle.lineage_cli.proofs.OutputLemmas.{begins_more, begins_held, begins_waiting}
+use Rattle.lineage_cli.proofs.OutputLemmas.{begins_more, waits_there}
 use Rattle.lineage_cli.proofs.output.put.Goals as goal
 
 pub returns-in_err-make_room-clause-text : goal.returns-in_err-make_room-clause-text
 returns-in_err-make_room-clause-text g c =
-    let p = err_from_is_err_and c.from_residual-in_err-make_room.result c.from_residual-in_err-make_room.ensures.1 in
+    let p = err_from_is_err_and c.from_residual.result c.from_residual.ensures.1 in
     rw p.1 (begins_more _ _ [] c.args.piece.now c.in_err-make_room.ensures.text)
 
-pub returns-in-Err-clause-text : goal.returns-in-Err-clause-text
-returns-in-Err-clause-text g c = begins_held _ _ c.args.buffer.now.items c.make_room.new.buffer.items c.args.piece.now c.in_ok-make_room.ensures.text
-
-pub returns-in_err-flush-clause-text : goal.returns-in_err-flush-clause-text
-returns-in_err-flush-clause-text g c =
-    let p = err_from_is_err_and c.from_residual.result c.from_residual.ensures.1 in
-    rw p.1 (begins_waiting _ _ c.args.buffer.now.items c.args.piece.now c.in_err-flush.ensures.text)
+pub returns-clause-text : goal.returns-clause-text
+returns-clause-text g c =
+    waits_there _ _ c.args.buffer.now c.make_room.new.buffer _ c.args.piece.now c.in_ok-make_room.ensures.text c.push.ensures.put

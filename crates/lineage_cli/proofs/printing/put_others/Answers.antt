@@ -6,17 +6,17 @@ use Rattle.row_types.specs.CellRef.{lent_cell}
 use Rattle.lineage_cli.proofs.PrintLemmas.{begun_more, begun_stops, cells_next}
 use Rattle.lineage_cli.proofs.printing.put_others.Goals as goal
 
-pub returns-in_err-put_spaced-clause-text : goal.returns-in_err-put_spaced-clause-text
-returns-in_err-put_spaced-clause-text g c =
+pub returns-in_err-put_cell-clause-text : goal.returns-in_err-put_cell-clause-text
+returns-in_err-put_cell-clause-text g c =
     let p = err_from_is_err_and c.from_residual.result c.from_residual.ensures.1 in
     rw p.1 (begun_stops _ _ _ (flat_map spaced_text (map lent_cell (drop c.loop-cell.cell-index c.args.cells.now))) _
     (flat_map spaced_text (map lent_cell (drop (c.loop-cell.cell-index + 1) c.args.cells.now))) (flat_map spaced_text (map lent_cell c.args.cells.now))
-    (cells_next c.args.cells.now c.loop-cell.cell-index _ c.loop-cell-test.true) c.loop-cell.invariant.begun c.in_err-put_spaced.ensures.text)
+    (cells_next c.args.cells.now c.loop-cell.cell-index _ c.loop-cell-test.true) c.loop-cell.invariant.begun c.in_err-put_cell.ensures.text)
 
 pub loop-cell-preserved : goal.loop-cell-preserved
 loop-cell-preserved g c = record {
   begun = begun_more _ _ _ (flat_map spaced_text (map lent_cell (drop c.loop-cell.cell-index c.args.cells.now))) _
       (flat_map spaced_text (map lent_cell (drop (c.loop-cell.cell-index + 1) c.args.cells.now))) (flat_map spaced_text (map lent_cell c.args.cells.now))
-      (cells_next c.args.cells.now c.loop-cell.cell-index _ c.loop-cell-test.true) c.loop-cell.invariant.begun c.in_ok-put_spaced.ensures.text;
-  later = omega (arith, c.loop-cell.invariant.later, c.put_spaced.ensures.cause.later);
+      (cells_next c.args.cells.now c.loop-cell.cell-index _ c.loop-cell-test.true) c.loop-cell.invariant.begun c.in_ok-put_cell.ensures.text;
+  later = omega (arith, c.loop-cell.invariant.later, c.put_cell.ensures.cause.later);
 }

@@ -6,7 +6,7 @@ use Rattle.lineage_cli.proofs.printing.put_rows.Given as goal
 
 abbrev pub invariant-loop-out : goal.invariant-loop-out
 invariant-loop-out g l = record {
-  begun : IsBegun (shown (g.W.Sink.written l.initial.out) l.initial.buffer.items) (shown (g.W.Sink.written l.out) l.buffer.items) (lines l.rows.left) (lines l.initial.rows.left);
+  begun : IsBegun (shown (g.W.Sink.written l.initial.out) l.initial.buffer) (shown (g.W.Sink.written l.out) l.buffer) (lines l.rows.left) (lines l.initial.rows.left);
   later : g.W.Sink.faults l.initial.out ≤ g.W.Sink.faults l.out;
 }
 
