@@ -218,7 +218,8 @@ fn put_long<W: Sink>(
     before: &[u8],
     cell: CellRef<'_>,
 ) -> Result<(), PortError>
-    requires { BUFFER_BYTES ≤ most_bytes_of (lent_cell cell) }
+    requires before { length before.now ≤ 1 }
+    requires long { BUFFER_BYTES ≤ most_bytes_of (lent_cell cell) }
     ensures text { Shows (W.written out.old) buffer.old
         (W.written out.new) buffer.new result
         (before.now ++ cell_text (lent_cell cell.entry)) }
