@@ -1,6 +1,7 @@
 //! One record, lent from its bytes.
 
-ghost use Rattle.std.specs.Prelude.{◌≡◌, ◌≤◌, [], ◌∷◌, List, length, map, true, Ok, IfOk, is_ok};
+ghost use Rattle.std.specs.Prelude.{◌≡◌, ◌≤◌, [], ◌∷◌, List, length, map, replicate, true, Ok, IfOk, is_ok};
+ghost use Rattle.row_types.specs.declared.cell_ref.CellRef.TheVariants.{Null};
 ghost use Rattle.words.specs.Reading.{Gives, never};
 ghost use Rattle.schema_tree.specs.declared.schema.Schema.{Schema as ASchema};
 ghost use Rattle.row_types.specs.CellRef.{lent_cell};
@@ -25,7 +26,7 @@ use std::alloc::{AllocError, Global};
 /// The cells of one record, lent from its bytes.
 #[derive(Drop)]
 pub struct Cells<'a> {
-    /// Those of all fields of the record.
+    /// Those of the fields whose values take bytes, in the order of the record.
     all: Vec<CellRef<'a>>,
     /// Those that are wanted, in the order in which they are.
     pub wanted: Vec<CellRef<'a>>,
@@ -36,6 +37,8 @@ pub fn nulls<'a>(alloc: Global, layout: &Layout) -> Result<Cells<'a>, AllocError
     ensures all { IfOk result (λ cells. length cells.all.items ≡ length layout.now.forms.items) }
     ensures wanted { IfOk result (λ cells.
         length cells.wanted.items ≡ length layout.now.sources.items) }
+    ensures nulls { IfOk result (λ cells.
+        cells.wanted.items ≡ replicate (length layout.now.sources.items) Null) }
 {
     Ok(Cells {
         all: some_nulls(alloc, layout.forms.len())?,
@@ -45,7 +48,8 @@ pub fn nulls<'a>(alloc: Global, layout: &Layout) -> Result<Cells<'a>, AllocError
 
 /// So many nulls.
 fn some_nulls<'a>(alloc: Global, count: usize) -> Result<Vec<CellRef<'a>>, AllocError>
-    ensures { IfOk result (λ cells. length cells.items ≡ count) }
+    ensures many { IfOk result (λ cells. length cells.items ≡ count) }
+    ensures nulls { IfOk result (λ cells. cells.items ≡ replicate count Null) }
 {
     vec![in alloc; CellRef::Null; count]
 }

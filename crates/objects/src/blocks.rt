@@ -1,9 +1,9 @@
 //! The objects of all blocks, shown one after the other.
 
-ghost use Rattle.std.specs.Prelude.{◌≡◌, ◌+◌, ◌<◌, ◌^◌, [], ◌∷◌, length, None, OnOk};
+ghost use Rattle.std.specs.Prelude.{◌≡◌, ◌+◌, ◌<◌, ◌^◌, [], ◌∷◌, length, None, OnOk, IfErr};
 ghost use Rattle.std.specs.Bool.{OnTrue, OnFalse};
 ghost use Rattle.words.specs.Reading.{Gives, never, outcome};
-ghost use Rattle.objects.specs.Stream.{ended, all};
+ghost use Rattle.objects.specs.Stream.{ended, refused, all};
 ghost use Rattle.objects.specs.Blocks.{told as objects_told, blocks_from};
 ghost use Rattle.objects.specs.Left.{left_of, IsStep, IfEnd, IsPass, IsBegun, IsWithin, IsReady};
 
@@ -110,13 +110,16 @@ impl<'a, R: Object<'a>> Objects<'a, R> {
         true
     }
 
-    /// Checks all objects that are left, and builds none of them.
+    /// Checks all objects that are left, and builds none of them. A refusal stays: the next call
+    /// returns it again.
     pub fn check(&mut self) -> Result<(), R::Refusal>
         requires ready { IsReady R.right R.fits self.old.reader self.old.rest self.old.slot }
         ensures ready { IsReady R.right R.fits self.new.reader self.new.rest self.new.slot }
         ensures exact { Gives never (λ done. done) result
             (outcome (all (left_of (R.at self.old.reader) R.rest self.old.rest))) }
         ensures left { OnOk result (left_of (R.at self.old.reader) R.rest self.new.rest ≡ ended) }
+        ensures stays { IfErr result (λ e.
+            left_of (R.at self.old.reader) R.rest self.new.rest ≡ refused e) }
         ensures slot { self.new.slot ≡ self.old.slot }
         ensures reader { self.new.reader ≡ self.old.reader }
         ensures whole { self.new.rest.walk.whole ≡ self.old.rest.walk.whole }

@@ -1,7 +1,7 @@
 -- A row is read as the record of the fields that are wanted for its columns.
-use Rattle.std.proofs.Common.{◌≡◌, ℕ, ◌+◌, true, false, List, [], ◌∷◌, map, refl, ap}
-use Rattle.std.proofs.Common.{◌∙◌}
-use Rattle.std.specs.Prelude.{ℤ, Bool, ◌&&◌, All, Option, Some, None, IfSome, if◌then◌else◌}
+use Rattle.std.proofs.Common.{◌≡◌, ℕ, ◌+◌, true, false, List, [], ◌∷◌, map, Ok, Err, refl, ap, ◌∙◌}
+use Rattle.std.specs.Prelude.{ℤ, Bool, ◌&&◌, All, Option, Some, None, IfSome, Result, if◌then◌else◌}
+use Rattle.std.specs.Bool.{OnFalse}
 use Rattle.std.proofs.lemmas.List.Elements.{All-head, All-tail}
 use Rattle.std.specs.Ordering.{int_eq}
 use Rattle.row_types.specs.declared.cell.Cell.{Cell}
@@ -14,10 +14,14 @@ use Rattle.datum_tree.specs.declared.datum.Datum.{Datum}
 use Rattle.cell_reading.specs.Kind.{is_allowed}
 use Rattle.cell_reading.specs.Value.{values_of}
 use Rattle.fields.specs.declared.wanted.Wanted.{Wanted}
-use Rattle.fields.specs.Flat.{inner_leaf}
-use Rattle.fields.specs.Wanted.{fields_of, is_id, source_as, source, cells_with, wanted_of}
+use Rattle.fields.specs.declared.leaf.Leaf.{Leaf}
+use Rattle.fields.specs.Flat.{inner_leaf, leaves}
+use Rattle.fields.specs.Wanted.{fields_of, is_id, source_as, source, cells_with, wanted_of, opens, is_none, check_missing}
 use Rattle.fields.specs.Wanted.{find_from as leaf_from, cell_at as leaf_cell}
-use Rattle.fields.specs.AloneLaws.{AreOuter, wanted_alone}
+use Rattle.fields.specs.declared.refusal.FieldRefusal.{FieldRefusal}
+use Rattle.fields.specs.declared.refusal.FieldRefusal.TheVariants.{MissingField, NoValue, Memory}
+use Rattle.fields.specs.Record.{is_memory}
+use Rattle.fields.specs.AloneLaws.{AreOuter, leaves_alone, wanted_alone}
 use Rattle.stored_rows.specs.Field.{Found, is_this, find_from, find, row_id_field, last_updated_field}
 use Rattle.stored_rows.specs.Stored.{IsThere, AreReadable}
 use Rattle.stored_rows.specs.Row.{cell_at, cell_with, stored_row}
@@ -111,3 +115,43 @@ pub cells_make : (columns : List Column) (schema : Schema) (datum : Datum) → A
 cells_make columns schema datum readable =
     let alone = wanted_alone (row_wanted columns) (refl, (refl, columns_outer columns)) schema datum in
     ap row_of_cells alone ∙ row_same columns (fields_of schema) (values_of datum) readable
+
+-- ---- what is missing
+
+and_false : (b : Bool) → (b && false) ≡ false
+and_false true = refl
+and_false false = refl
+
+-- a column that can be read is not missing among what is wanted
+not_missing : (column : Column) (found : Option Found) → IsThere column found
+    → (column.required && is_none (source_as column.kind found)) ≡ false
+not_missing column None there = ap (λ (b : Bool). b && true) there
+not_missing column (Some found) there =
+    ap (λ (b : Bool). column.required && is_none (if b then Some found.0 else None)) there ∙ and_false column.required
+
+none_missing_in : (columns : List Column) (fields : List Field) → All (λ column. IsThere column (find column.id fields)) columns
+    → check_missing (map (inner_leaf None) fields) (map column_wanted columns) ≡ Ok tt
+unfolding check_missing
+none_missing_in [] fields each = refl
+none_missing_in (column ∷ columns) fields each =
+    let There = λ (c : Column). IsThere c (find c.id fields) in
+    let same = find_same fields 0 column.id column.kind column.required in
+    let found = ap (λ (o : Option Found). column.required && is_none (source_as column.kind o)) same in
+    let here = found ∙ not_missing column (find column.id fields) (All-head There column columns each) in
+    rw here (none_missing_in columns fields (All-tail There column columns each))
+
+-- nothing that is wanted for columns that can be read is missing
+pub none_missing : (columns : List Column) (schema : Schema) → AreReadable columns (fields_of schema)
+    → check_missing (leaves (opens (row_wanted columns)) (fields_of schema)) (row_wanted columns) ≡ Ok tt
+unfolding check_missing
+none_missing columns schema readable =
+    let alone = leaves_alone (row_wanted columns) (refl, (refl, columns_outer columns)) (fields_of schema) in
+    ap (λ (ls : List Leaf). check_missing ls (row_wanted columns)) alone
+    ∙ none_missing_in columns (fields_of schema) readable.each
+
+-- so a refusal of the layout says that memory ran out
+pub memory_only : (e : FieldRefusal) (missing : Result (Unit {0}) FieldRefusal) → missing ≡ Ok tt
+    → OnFalse (is_memory e) (missing ≡ Err e) → is_memory e ≡ true
+memory_only Memory missing none gives = refl
+memory_only (MissingField id) missing none gives = absurd cc
+memory_only (NoValue refusal) missing none gives = absurd cc

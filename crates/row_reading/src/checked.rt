@@ -2,7 +2,7 @@
 
 ghost use Rattle.std.specs.Prelude.{◌≡◌, ◌<◌, ◌≤◌, ◌^◌, ◌∷◌, List, [], length, map, Ok, IfOk, OnOk};
 ghost use Rattle.std.specs.Bool.{OnTrue, OnFalse};
-ghost use Rattle.words.specs.Reading.{Gives};
+ghost use Rattle.words.specs.Reading.{Gives, never};
 ghost use Rattle.row_types.specs.CellRef.{lent_cell};
 ghost use Rattle.row_types.specs.declared.row.StoredRow.{StoredRow as AStoredRow};
 ghost use Rattle.objects.specs.Blocks.{count_all};
@@ -176,7 +176,7 @@ fn check_before_rows(
     schema: &Schema,
     columns: &[Column],
 ) -> Result<u64, RowRefusal>
-    ensures exact { Gives is_memory (λ _. tt) result
+    ensures exact { Gives never (λ _. tt) result
         (check_before_rows columns.now schema.now walk.old.whole.blocks) }
     ensures readable { OnOk result (check_fields (fields_of schema.now) columns.now ≡ Ok tt) }
     ensures rows { IfOk result (λ rows.

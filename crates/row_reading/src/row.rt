@@ -1,9 +1,11 @@
 //! What a row is, as a record of the fields of its columns.
 
-ghost use Rattle.std.specs.Prelude.{◌≡◌, ◌≤◌, length, map, IfOk};
+ghost use Rattle.std.specs.Prelude.{◌≡◌, ◌≤◌, true, length, map, Ok, IfOk};
 ghost use Rattle.row_types.specs.CellRef.{lent_cell};
-ghost use Rattle.fields.specs.Record.{IsLayout};
+ghost use Rattle.fields.specs.Wanted.{fields_of};
+ghost use Rattle.fields.specs.Record.{is_memory, IsLayout};
 ghost use Rattle.stored_rows.specs.declared.refusal.RowRefusal.TheVariants.{Rest};
+ghost use Rattle.stored_rows.specs.Field.{check_fields};
 ghost use Rattle.row_reading.specs.Wanted.{number_wanted, column_wanted, row_wanted, row_of_cells};
 ghost use Rattle.row_reading.specs.Wanted.{field_refusal};
 
@@ -47,8 +49,9 @@ impl FromCells for FileRow {
     }
 }
 
-/// How the rows of a file with the schema are read. It has what the columns need.
+/// How the rows of a file with the schema are read, if it has what the columns need.
 pub fn row_layout(alloc: Global, schema: Schema, columns: &[Column]) -> Result<Layout, AllocError>
+    requires readable { check_fields (fields_of schema) columns.now ≡ Ok tt }
     ensures right { IfOk result IsLayout }
     ensures schema { IfOk result (λ layout. layout.schema ≡ schema) }
     ensures wanted { IfOk result (λ layout. layout.wanted.items ≡ row_wanted columns.now) }
@@ -56,7 +59,18 @@ pub fn row_layout(alloc: Global, schema: Schema, columns: &[Column]) -> Result<L
     let wanted = row_wanted(alloc, columns)?;
     match lay_out(alloc, schema, wanted) {
         Ok(layout) => Ok(layout),
-        Err(_) => Err(AllocError),
+        // No column is missing.
+        Err(refusal) => Err(memory_of(refusal)),
+    }
+}
+
+/// The refusal that memory ran out, which this one is.
+fn memory_of(refusal: FieldRefusal) -> AllocError
+    requires { is_memory refusal ≡ true }
+{
+    match refusal {
+        FieldRefusal::Memory => AllocError,
+        FieldRefusal::MissingField { .. } | FieldRefusal::NoValue(_) => unreachable!(),
     }
 }
 
