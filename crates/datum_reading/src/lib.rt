@@ -17,7 +17,9 @@ mod refusal;
 mod skipping;
 
 pub use cursor::Cursor;
-pub use primitive::{pass_sized, take_choice, take_flag, take_int_at, take_long_at, take_text};
+pub use primitive::{
+    pass_raw, pass_sized, take_choice, take_flag, take_int_at, take_long_at, take_text,
+};
 pub use reading::{decode, no_prefix, reading_agrees};
 pub use refusal::DatumRefusal;
 pub use skipping::skip;

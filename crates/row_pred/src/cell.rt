@@ -4,7 +4,6 @@ ghost use Rattle.std.specs.Prelude.{◌≡◌, ◌≤◌, ◌++◌, length, slic
 ghost use Rattle.std.specs.String.{string_bytes};
 ghost use Rattle.std.specs.Option.{option_map};
 ghost use Rattle.words.specs.Reading.{Gives, map_value};
-ghost use Rattle.row_types.specs.Fits.{fits as fits_in, has_number as kind_has_number};
 ghost use Rattle.pieces.specs.Refusal.{is_memory as is_memory_of_piece};
 ghost use Rattle.pieces.specs.Word.{one_of};
 ghost use Rattle.pieces.specs.Number.{any_number_at};
@@ -19,7 +18,7 @@ ghost use Rattle.row_pred.specs.Cell.{cell_at};
 use crate::refusal::PredRefusal;
 use cell_text::push_cell;
 use pieces::{PieceRefusal, stands, take_any_number, take_hex, take_literal, take_one_of};
-use row_types::{Cell, Column, Kind};
+use row_types::{Cell, Column, fits};
 use std::alloc::{AllocError, Global};
 
 /// The words of cells, and none else.
@@ -149,29 +148,5 @@ fn fitted(
         _ => Err(PredRefusal::Misfit {
             place: place as u64,
         }),
-    }
-}
-
-/// Whether the cell may stand in the column.
-fn fits(column: &Column, cell: &Cell) -> bool
-    ensures { result ≡ fits_in column.now cell.now }
-{
-    match cell {
-        Cell::Null => !column.required,
-        Cell::Flag(_) => column.kind == Kind::Boolean,
-        Cell::Num(number) => has_number(column.kind, *number),
-        Cell::Text(_) => column.kind == Kind::Text,
-        Cell::Bytes(_) => column.kind == Kind::Bytes,
-    }
-}
-
-/// Whether a column of the kind may hold the number.
-fn has_number(kind: Kind, number: i64) -> bool
-    ensures { result ≡ kind_has_number kind number }
-{
-    match kind {
-        Kind::Int | Kind::Date => i32::try_from(number).is_ok(),
-        Kind::Long | Kind::Time | Kind::Timestamp | Kind::Timestamptz => true,
-        Kind::Boolean | Kind::Text | Kind::Bytes => false,
     }
 }

@@ -4,6 +4,7 @@
 //! |---|---|
 //! | `column`, `columns` | a column, and the columns of a table |
 //! | `cell`, `cell_ref`, `row` | a cell, one that borrows its text, and rows |
+//! | `fitting` | which cells may stand in which columns |
 //! | `row_map` | rows by their ids |
 #![tactic(auto)]
 
@@ -11,6 +12,7 @@ mod cell;
 mod cell_ref;
 mod column;
 mod columns;
+mod fitting;
 mod row;
 mod row_map;
 
@@ -18,5 +20,6 @@ pub use cell::{Cell, Cells};
 pub use cell_ref::CellRef;
 pub use column::{Column, Kind};
 pub use columns::{Columns, ColumnsRefusal};
+pub use fitting::fits;
 pub use row::{CellRows, Row, RowList, StoredRow, StoredRows, Unnamed};
 pub use row_map::RowMap;
