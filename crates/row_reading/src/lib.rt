@@ -4,7 +4,7 @@
 //! |---|---|
 //! | `opening` | a file's blocks, and its schema |
 //! | `columns` | the columns of a file, by its own schema |
-//! | `row` | a reader of one row, by the fields of its columns |
+//! | `row` | what a row is, as a record of the fields of its columns |
 //! | `counts` | the checks of how many rows a file has |
 //! | `checked` | the rows of a file that was checked |
 //! | `reading` | reading all rows of a file |

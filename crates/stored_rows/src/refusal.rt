@@ -22,8 +22,9 @@ pub enum RowRefusal {
     Schema(SchemaRefusal),
     /// The file has no field of this required column. `id`: the column's.
     MissingColumn { id: i32 },
-    /// A field's type isn't one that the column is read from, or a required column has a null.
-    /// `id`: the column's; 0 where there is none.
+    /// A field's type isn't one that the column is read from, or a required column has a null. Of a
+    /// file's own columns: a field has no id, or the ids, the names or their number are not those
+    /// of a table. `id`: the column's; 0 if there is none.
     Kind { id: i32 },
     /// The bytes of a row spell none. Its places count from the start of the block's bytes.
     Datum(DatumRefusal),
