@@ -3,6 +3,7 @@
 //! | Module | What it has |
 //! |---|---|
 //! | `column`, `columns` | a column, and the columns of a table |
+//! | `kind_word` | the words of the kinds of columns |
 //! | `cell`, `cell_ref`, `row` | a cell, one that borrows its text, and rows |
 //! | `row_map` | rows by their ids |
 #![tactic(auto)]
@@ -11,6 +12,7 @@ mod cell;
 mod cell_ref;
 mod column;
 mod columns;
+mod kind_word;
 mod row;
 mod row_map;
 
@@ -18,5 +20,6 @@ pub use cell::{Cell, Cells};
 pub use cell_ref::CellRef;
 pub use column::{Column, Kind};
 pub use columns::{Columns, ColumnsRefusal};
+pub use kind_word::{KIND_WORDS, kind_of_word};
 pub use row::{CellRows, Row, RowList, StoredRow, StoredRows, Unnamed};
 pub use row_map::RowMap;
