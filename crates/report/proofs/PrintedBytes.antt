@@ -17,6 +17,7 @@ use Rattle.pieces.specs.Literal.{escape, literal_text}
 use Rattle.pieces.specs.HexLiteral.{hex_text}
 use Rattle.pieces.specs.Decimal.{all_digits, is_long_or_none}
 use Rattle.pieces.specs.NumberLaws.{decimal_digits}
+use Rattle.row_types.specs.KindWordLaws.{is_graphic}
 use Rattle.row_types.specs.Fits.{is_long}
 
 -- ---- bytes of a line
@@ -65,6 +66,21 @@ plain_line [] all = empty_line
 plain_line (byte ∷ text) all =
     let parts = and_parts (is_plain byte) (list_all is_plain text) all in
     plain_then byte text parts.0 (plain_line text parts.1)
+
+-- a graphic character is such a byte
+graphic_plain : (byte : ℕ) → is_graphic byte ≡ true → is_plain byte ≡ true
+graphic_plain byte is =
+    let parts = and_parts (nat_lt 32 byte) (nat_lt byte 127) is in
+    let above : 32 < byte = ltb-true 32 byte parts.0 in
+    let below : byte < 127 = ltb-true byte 127 parts.1 in
+    grind arith
+
+-- such characters
+pub graphic_line : (text : List ℕ) → list_all is_graphic text ≡ true → IsLine text
+graphic_line [] all = empty_line
+graphic_line (byte ∷ text) all =
+    let parts = and_parts (is_graphic byte) (list_all is_graphic text) all in
+    plain_then byte text (graphic_plain byte parts.0) (graphic_line text parts.1)
 
 -- ---- numbers
 

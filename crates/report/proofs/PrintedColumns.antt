@@ -12,10 +12,11 @@ use Rattle.std.proofs.lemmas.List.Elements.{All-head, All-tail}
 use Rattle.words.specs.Reading.{map_value}
 use Rattle.row_types.specs.declared.column.Column.{Column}
 use Rattle.row_types.specs.declared.column.Kind.{Kind}
-use Rattle.row_types.specs.declared.column.Kind.TheVariants as kinds
+use Rattle.row_types.specs.KindWord.{kind_words, kind_of_word, kind_text}
 use Rattle.row_types.specs.Columns.{IsColumns}
 use Rattle.row_types.specs.Fits.{is_int}
 use Rattle.row_types.specs.ColumnsLaws.{columns_accepted}
+use Rattle.row_types.specs.KindWordLaws.{apart, all_apart, has_word}
 use Rattle.pieces.specs.declared.refusal.PieceRefusal.{PieceRefusal}
 use Rattle.pieces.specs.Word.{spaces, one_of, gap_at}
 use Rattle.pieces.specs.Literal.{literal_text}
@@ -25,10 +26,10 @@ use Rattle.words.specs.Parts.{behind_is}
 use Rattle.pieces.specs.WordLaws.{byte_again, word_again, gap_again}
 use Rattle.pieces.specs.NumberLaws.{no_digit_first, long_again, long_no_space}
 use Rattle.pieces.specs.LiteralLaws.{literal_again}
-use Rattle.row_types.specs.FitsLaws.{number_is_long}
-use Rattle.report.specs.Schema.{kind_words, kind_of, null_words, id_at, kind_at, required_at, before_colon, named_at}
+use Rattle.row_types.specs.FitsLaws.{int_is_long}
+use Rattle.report.specs.Schema.{null_words, id_at, kind_at, required_at, before_colon, named_at}
 use Rattle.report.specs.Schema.{column_at, gap_or_end, columns_at, listed, schema_of}
-use Rattle.report.specs.Printed.{kind_text, required_text, column_text, next_column_text, schema_text}
+use Rattle.report.specs.Printed.{required_text, column_text, next_column_text, schema_text}
 use Rattle.report.proofs.SchemaLemmas.{item, ColumnsFrom, list_of, column_last, column_more}
 
 -- ---- the parts of a column, with a colon behind them
@@ -57,24 +58,31 @@ word_before_colon words k word input rest place is d e =
     one_of_first words k word input place (place + length word) is (others_refused (take k words) (word ++ 58 ∷ []) input rest place d whole) (word_again word input (58 ∷ rest) place e)
 
 -- a kind by its place among the words
-kind_by : (k : ℕ) (kind : Kind) (input rest : List ℕ) (place : ℕ) → kind_of k ≡ kind
+kind_by : (k : ℕ) (kind : Kind) (input rest : List ℕ) (place : ℕ) → kind_of_word k ≡ kind
     → slice_get kind_words k ≡ Some (kind_text kind) → all_differ (take k kind_words)
     (kind_text kind ++ 58 ∷ []) ≡ true → drop place input ≡ kind_text kind ++ 58 ∷ rest
     → kind_at input place ≡ Ok (kind, place + length (kind_text kind))
 kind_by k kind input rest place same is d e =
-    ap (map_value (λ (word : ℕ × ℕ). (kind_of word.0, word.1))) (word_before_colon kind_words k (kind_text kind) input rest place is d e) ∙ ap (λ (one : Kind). Ok (one, place + length (kind_text kind))) same
+    ap (map_value (λ (word : ℕ × ℕ). (kind_of_word word.0, word.1))) (word_before_colon kind_words k (kind_text kind) input rest place is d e) ∙ ap (λ (one : Kind). Ok (one, place + length (kind_text kind))) same
+
+-- texts that are apart differ
+apart_differ : (text other : List ℕ) → apart text other ≡ differ text other
+apart_differ [] other = refl
+apart_differ (byte ∷ text) [] = refl
+apart_differ (byte ∷ text) (first ∷ other) = rw (apart_differ text other) refl
+
+-- so do several from one
+all_apart_differ : (texts : List (List ℕ)) (other : List ℕ) → all_apart texts other ≡ all_differ texts other
+all_apart_differ [] other = refl
+all_apart_differ (text ∷ texts) other = rw (apart_differ text other, all_apart_differ texts other) refl
 
 -- a kind is read
 kind_again : (kind : Kind) (input rest : List ℕ) (place : ℕ) → drop place input ≡ kind_text kind ++ 58 ∷ rest → kind_at input place ≡ Ok (kind, place + length (kind_text kind))
-kind_again kinds.Boolean input rest place e = kind_by 0 kinds.Boolean input rest place refl refl refl e
-kind_again kinds.Int input rest place e = kind_by 1 kinds.Int input rest place refl refl refl e
-kind_again kinds.Long input rest place e = kind_by 2 kinds.Long input rest place refl refl refl e
-kind_again kinds.Date input rest place e = kind_by 3 kinds.Date input rest place refl refl refl e
-kind_again kinds.Timestamptz input rest place e = kind_by 4 kinds.Timestamptz input rest place refl refl refl e
-kind_again kinds.Timestamp input rest place e = kind_by 5 kinds.Timestamp input rest place refl refl refl e
-kind_again kinds.Time input rest place e = kind_by 6 kinds.Time input rest place refl refl refl e
-kind_again kinds.Text input rest place e = kind_by 7 kinds.Text input rest place refl refl refl e
-kind_again kinds.Bytes input rest place e = kind_by 8 kinds.Bytes input rest place refl refl refl e
+kind_again kind input rest place e =
+    let word = has_word kind in
+    let others = take word.place kind_words in
+    let differs = sym (all_apart_differ others (kind_text kind ++ 58 ∷ [])) ∙ word.first in
+    kind_by word.place kind input rest place word.means word.stands differs e
 
 -- whether a column is required is read
 required_again : (required : Bool) (input rest : List ℕ) (place : ℕ) → drop place input ≡ required_text required ++ 58 ∷ rest → required_at input place ≡ Ok (required, place + length (required_text required))
@@ -84,7 +92,7 @@ required_again false input rest place e = rw (word_before_colon null_words 1 (co
 -- an id is read
 id_again : (id : ℤ) (input rest : List ℕ) (place : ℕ) → is_int id ≡ true → drop place input ≡ signed_decimal id ++ 58 ∷ rest → id_at input place ≡ Ok (id, place + length (signed_decimal id))
 id_again id input rest place fits e =
-    rw (long_again id input (58 ∷ rest) place (number_is_long kinds.Int id fits) e (no_digit_first 58 rest refl), fits) refl
+    rw (long_again id input (58 ∷ rest) place (int_is_long id fits) e (no_digit_first 58 rest refl), fits) refl
 
 -- a name is read
 named_again : (column : Column) (input rest : List ℕ) (place : ℕ) → drop place input ≡ literal_text column.name ++ rest → named_at input column.id column.kind column.required place ≡ Ok (column, place + length (literal_text column.name))
@@ -125,7 +133,7 @@ column_again column input rest place fits e =
 
 -- a column doesn't begin with a space
 column_no_space : (column : Column) (rest : List ℕ) → is_int column.id ≡ true → spaces (column_text column ++ rest) ≡ 0
-column_no_space column rest fits = ap spaces (append_assoc (signed_decimal column.id) _ rest) ∙ long_no_space column.id _ (number_is_long kinds.Int column.id fits)
+column_no_space column rest fits = ap spaces (append_assoc (signed_decimal column.id) _ rest) ∙ long_no_space column.id _ (int_is_long column.id fits)
 
 -- a line that is left reaches to its end
 left_size : (line text : List ℕ) (at : ℕ) → 0 < length text → drop at line ≡ text → at + length text ≡ length line

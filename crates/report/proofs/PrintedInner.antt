@@ -10,12 +10,12 @@ use Rattle.row_types.specs.declared.cell.Cell.{Cell}
 use Rattle.row_types.specs.declared.cell.Cell.TheVariants.{Null, Flag, Num, Text, Bytes}
 use Rattle.row_types.specs.declared.column.Column.{Column}
 use Rattle.row_types.specs.declared.column.Kind.{Kind}
-use Rattle.row_types.specs.declared.column.Kind.TheVariants as kinds
 use Rattle.history_types.specs.declared.entry.Entry.{Entry}
 use Rattle.history_types.specs.declared.entry.Run.{Run}
 use Rattle.history_types.specs.declared.request.Request.{Request}
 use Rattle.history_types.specs.declared.request.Request.TheVariants.{Append, Compact, Upgrade}
 use Rattle.row_types.specs.declared.row.Row.{Row}
+use Rattle.row_types.specs.KindWord.{kind_text}
 use Rattle.row_types.specs.Columns.{IsColumns}
 use Rattle.row_types.specs.Fits.{fits, fits_row, has_real_bytes, is_int, is_long, IsRow}
 use Rattle.history_types.specs.Fits.{IsRun, AreRuns, FitsRequest, FitsEntry}
@@ -24,14 +24,15 @@ use Rattle.pieces.specs.Literal.{literal_text}
 use Rattle.pieces.specs.Decimal.{is_long_or_none}
 use Rattle.cell_text.specs.Cell.{cell_text}
 use Rattle.row_pred.specs.Cells.{spaced_text, cells_text}
-use Rattle.row_types.specs.FitsLaws.{number_is_long}
+use Rattle.row_types.specs.KindWordLaws.{has_word}
+use Rattle.row_types.specs.FitsLaws.{int_is_long, number_is_long}
 use Rattle.history_log.specs.Runs.{run_text, next_run_text, runs_text}
 use Rattle.history_log.specs.Request.{next_row_text, rows_text, next_path_text, request_text}
 use Rattle.history_log.specs.Entry.{spaced, entry_text}
-use Rattle.report.specs.Printed.{kind_text, required_text, column_text, next_column_text, schema_text, start_text}
+use Rattle.report.specs.Printed.{required_text, column_text, next_column_text, schema_text, start_text}
 use Rattle.report.specs.Printed.{row_text, is_text, HasTexts, FitsRow}
 use Rattle.report.proofs.PrintedBytes.{IsLine, empty_line, line_append, plain_then, plain_line, decimal_line}
-use Rattle.report.proofs.PrintedBytes.{signed_line, optional_line, literal_line, hex_line}
+use Rattle.report.proofs.PrintedBytes.{graphic_line, signed_line, optional_line, literal_line, hex_line}
 use Rattle.report.proofs.PrintedColumns.{id_is_int}
 use Rattle.report.proofs.PrintedLines.{long_or_none}
 
@@ -139,20 +140,12 @@ entry_is_line columns entry fit texts =
 
 -- the word of a kind
 kind_line : (kind : Kind) → IsLine (kind_text kind)
-kind_line kinds.Boolean = plain_line (codes "boolean") refl
-kind_line kinds.Int = plain_line (codes "int") refl
-kind_line kinds.Long = plain_line (codes "long") refl
-kind_line kinds.Date = plain_line (codes "date") refl
-kind_line kinds.Time = plain_line (codes "time") refl
-kind_line kinds.Timestamp = plain_line (codes "timestamp") refl
-kind_line kinds.Timestamptz = plain_line (codes "timestamptz") refl
-kind_line kinds.Text = plain_line (codes "string") refl
-kind_line kinds.Bytes = plain_line (codes "binary") refl
+kind_line kind = graphic_line (kind_text kind) (has_word kind).graphic
 
 -- a column
 column_line : (column : Column) → is_int column.id ≡ true → is_utf8 column.name ≡ true → IsLine (column_text column)
 column_line column fit name =
-    line_append (signed_decimal column.id) _ (signed_line column.id (number_is_long kinds.Int column.id fit))
+    line_append (signed_decimal column.id) _ (signed_line column.id (int_is_long column.id fit))
     (plain_then 58 _ refl (line_append (kind_text column.kind) _ (kind_line column.kind)
     (plain_then 58 _ refl (line_append (required_text column.required) _ (required_line column.required)
     (plain_then 58 _ refl (literal_line column.name name))))))

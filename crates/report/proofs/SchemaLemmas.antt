@@ -3,19 +3,20 @@ use Rattle.std.proofs.Common.{◌≡◌, ℕ, ◌≤◌, ◌<◌, List, [], ◌�
 use Rattle.words.specs.Reading.{map_value}
 use Rattle.row_types.specs.declared.column.Column.{Column}
 use Rattle.row_types.specs.declared.column.Kind.{Kind}
+use Rattle.row_types.specs.KindWord.{kind_words, kind_of_word}
 use Rattle.pieces.specs.declared.refusal.PieceRefusal.{PieceRefusal}
 use Rattle.pieces.specs.Word.{one_of}
 use Rattle.pieces.specs.Many.{Item}
 use Rattle.pieces.specs.ManyLaws.{ManyFrom, many_on, many_done, many_refused, many_stopped}
-use Rattle.report.specs.Schema.{kind_words, kind_of, kind_at, column_at, gap_or_end}
+use Rattle.report.specs.Schema.{kind_at, column_at, gap_or_end}
 
 -- a word of a kind was read
-pub kind_read : (input : List ℕ) (place index after : ℕ) (kind : Kind) → Ok (index, after) ≡ one_of kind_words input place → kind ≡ kind_of index → Ok (kind, after) ≡ kind_at input place
-kind_read input place index after kind read is = rw is (ap (λ (r : Result (ℕ × ℕ) PieceRefusal). map_value (λ word. (kind_of word.0, word.1)) r) read)
+pub kind_read : (input : List ℕ) (place index after : ℕ) (kind : Kind) → Ok (index, after) ≡ one_of kind_words input place → kind ≡ kind_of_word index → Ok (kind, after) ≡ kind_at input place
+kind_read input place index after kind read is = rw is (ap (λ (r : Result (ℕ × ℕ) PieceRefusal). map_value (λ word. (kind_of_word word.0, word.1)) r) read)
 
 -- no word of a kind stands there
 pub kind_refused : (input : List ℕ) (place : ℕ) (refusal : PieceRefusal) → Err refusal ≡ one_of kind_words input place → Err refusal ≡ kind_at input place
-kind_refused input place refusal read = ap (λ (r : Result (ℕ × ℕ) PieceRefusal). map_value (λ word. (kind_of word.0, word.1)) r) read
+kind_refused input place refusal read = ap (λ (r : Result (ℕ × ℕ) PieceRefusal). map_value (λ word. (kind_of_word word.0, word.1)) r) read
 
 -- ---- columns one behind the other
 

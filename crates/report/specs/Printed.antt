@@ -9,13 +9,12 @@ use Rattle.words.specs.Reading.{◌>>=◌}
 use Rattle.row_types.specs.declared.cell.Cell.{Cell}
 use Rattle.row_types.specs.declared.cell.Cell.TheVariants.{Null, Flag, Num, Text, Bytes}
 use Rattle.row_types.specs.declared.column.Column.{Column}
-use Rattle.row_types.specs.declared.column.Kind.{Kind}
-use Rattle.row_types.specs.declared.column.Kind.TheVariants as kinds
 use Rattle.history_types.specs.declared.entry.Entry.{Entry}
 use Rattle.history_types.specs.declared.request.Request.{Request}
 use Rattle.history_types.specs.declared.request.Request.TheVariants.{Append, Compact, Upgrade}
 use Rattle.row_types.specs.declared.row.Row.{Row}
 use Rattle.history_types.specs.declared.state.State.{State}
+use Rattle.row_types.specs.KindWord.{kind_text}
 use Rattle.row_types.specs.Columns.{IsColumns}
 use Rattle.row_types.specs.Fits.{is_long, IsRow}
 use Rattle.history_types.specs.Fits.{FitsEntry}
@@ -28,18 +27,6 @@ use Rattle.report.specs.Start.{without_rows}
 use Rattle.report.specs.Rows.{joined}
 
 -- ---- the lines, without LF
-
--- the word of a kind
-abbrev pub kind_text : Kind → List ℕ
-kind_text kinds.Boolean = codes "boolean"
-kind_text kinds.Int = codes "int"
-kind_text kinds.Long = codes "long"
-kind_text kinds.Date = codes "date"
-kind_text kinds.Time = codes "time"
-kind_text kinds.Timestamp = codes "timestamp"
-kind_text kinds.Timestamptz = codes "timestamptz"
-kind_text kinds.Text = codes "string"
-kind_text kinds.Bytes = codes "binary"
 
 -- whether a column is required
 abbrev pub required_text : Bool → List ℕ

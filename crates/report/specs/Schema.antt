@@ -1,10 +1,10 @@
 -- The line of the columns: the word, and a column behind each space.
-use Rattle.std.specs.Prelude.{Bool, ℕ, zero, suc, ◌+◌, ◌==◌, ℤ, List, [], ◌∷◌, length, Option, Some, None, Result, Ok}
+use Rattle.std.specs.Prelude.{Bool, ℕ, ◌+◌, ◌==◌, ℤ, List, [], ◌∷◌, length, Option, Some, None, Result, Ok}
 use Rattle.std.specs.Prelude.{Err, codes, if◌then◌else◌}
 use Rattle.words.specs.Reading.{◌>>=◌, map_refusal, map_value}
 use Rattle.row_types.specs.declared.column.Column.{Column}
 use Rattle.row_types.specs.declared.column.Kind.{Kind}
-use Rattle.row_types.specs.declared.column.Kind.TheVariants as kinds
+use Rattle.row_types.specs.KindWord.{kind_words, kind_of_word}
 use Rattle.row_types.specs.Columns.{columns_of}
 use Rattle.row_types.specs.Fits.{is_int}
 use Rattle.pieces.specs.declared.refusal.PieceRefusal.{PieceRefusal}
@@ -17,24 +17,6 @@ use Rattle.report.specs.declared.refusal.LineRefusal.{LineRefusal}
 use Rattle.report.specs.Refusal.{of_piece, of_columns}
 use Rattle.report.specs.Start.{word_and_gap}
 
--- the words of the kinds; of two that begin alike the longer one is looked for first
-abbrev pub kind_words : List (List ℕ)
-kind_words =
-    codes "boolean" ∷ codes "int" ∷ codes "long" ∷ codes "date" ∷ codes "timestamptz" ∷ codes "timestamp"
-    ∷ codes "time" ∷ codes "string" ∷ codes "binary" ∷ []
-
--- the kind of a word, by its place among them
-abbrev pub kind_of : ℕ → Kind
-kind_of zero = kinds.Boolean
-kind_of (suc zero) = kinds.Int
-kind_of (suc (suc zero)) = kinds.Long
-kind_of (suc (suc (suc zero))) = kinds.Date
-kind_of (suc (suc (suc (suc zero)))) = kinds.Timestamptz
-kind_of (suc (suc (suc (suc (suc zero))))) = kinds.Timestamp
-kind_of (suc (suc (suc (suc (suc (suc zero)))))) = kinds.Time
-kind_of (suc (suc (suc (suc (suc (suc (suc zero))))))) = kinds.Text
-kind_of (suc (suc (suc (suc (suc (suc (suc (suc index)))))))) = kinds.Bytes
-
 -- whether null may not or may stand in a column
 abbrev pub null_words : List (List ℕ)
 null_words = codes "required" ∷ codes "optional" ∷ []
@@ -45,7 +27,7 @@ id_at input place = long_at input place >>= λ read. if is_int read.0 then Ok re
 
 -- a kind by its word
 abbrev pub kind_at : List ℕ → ℕ → Result (Kind × ℕ) PieceRefusal
-kind_at input place = map_value (λ word. (kind_of word.0, word.1)) (one_of kind_words input place)
+kind_at input place = map_value (λ word. (kind_of_word word.0, word.1)) (one_of kind_words input place)
 
 -- whether a column is required, by its word
 abbrev pub required_at : List ℕ → ℕ → Result (Bool × ℕ) PieceRefusal

@@ -5,18 +5,19 @@ ghost use Rattle.std.specs.Fmt.{signed_decimal};
 ghost use Rattle.std.specs.List.{flat_map};
 ghost use Rattle.std.specs.String.{string_bytes};
 ghost use Rattle.history_types.specs.declared.state.State.{State as AState};
+ghost use Rattle.row_types.specs.KindWord.{kind_text};
 ghost use Rattle.row_types.specs.Columns.{IsColumns};
 ghost use Rattle.history_log.specs.Entry.{entry_text};
 ghost use Rattle.report.specs.Schema.{schema_of};
 ghost use Rattle.report.specs.Report.{report_of};
-ghost use Rattle.report.specs.Printed.{kind_text, required_text, column_text, next_column_text, schema_text, start_text, row_text, Told, lined, report_text, IsTold, IsReadBack, start_told};
+ghost use Rattle.report.specs.Printed.{required_text, column_text, next_column_text, schema_text, start_text, row_text, Told, lined, report_text, IsTold, IsReadBack, start_told};
 
 use avro_wire::Text;
 use history_log::print_entry;
 use history_types::{Entries, Entry};
 use pieces::{put_literal, put_long, put_optional_long, put_unsigned};
 use row_pred::put_cells;
-use row_types::{Column, Columns, Kind, Row, RowList};
+use row_types::{Column, Columns, Row, RowList};
 use std::alloc::{AllocError, Global};
 
 /// The text of the report that tells the columns, the state at the start by its version, its
@@ -139,25 +140,8 @@ fn put_id_and_kind(out: &mut String, column: &Column) -> Result<(), AllocError>
 {
     put_long(out, i64::from(column.id))?;
     out.push_str(":")?;
-    out.push_str(kind_word(column.kind))?;
+    out.push_str(column.kind.word())?;
     out.push_str(":")
-}
-
-/// The word of a kind.
-fn kind_word(kind: Kind) -> &'static str
-    ensures { result.now ≡ kind_text kind }
-{
-    match kind {
-        Kind::Boolean => "boolean",
-        Kind::Int => "int",
-        Kind::Long => "long",
-        Kind::Date => "date",
-        Kind::Time => "time",
-        Kind::Timestamp => "timestamp",
-        Kind::Timestamptz => "timestamptz",
-        Kind::Text => "string",
-        Kind::Bytes => "binary",
-    }
 }
 
 /// The word that says whether a column is required.

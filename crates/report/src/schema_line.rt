@@ -4,26 +4,13 @@ ghost use Rattle.std.specs.Prelude.{◌≡◌, ◌<◌, ◌≤◌, length, IfOk,
 ghost use Rattle.words.specs.Reading.{Gives, map_value};
 ghost use Rattle.pieces.specs.Refusal.{is_memory as is_memory_of_piece};
 ghost use Rattle.report.specs.Refusal.{is_memory};
-ghost use Rattle.report.specs.Schema.{id_at, kind_words, kind_of as kind_of_word, kind_at, null_words, required_at, before_colon, named_at, column_at, gap_or_end as or_end, columns_at, listed, schema_of};
+ghost use Rattle.report.specs.Schema.{id_at, kind_at, null_words, required_at, before_colon, named_at, column_at, gap_or_end as or_end, columns_at, listed, schema_of};
 
 use crate::refusal::LineRefusal;
 use crate::start_line::word_and_gap;
 use pieces::{PieceRefusal, take_byte, take_gap, take_literal, take_long, take_one_of};
-use row_types::{Column, Columns, Kind};
+use row_types::{Column, Columns, KIND_WORDS, Kind, kind_of_word};
 use std::alloc::Global;
-
-/// The words of the kinds. Of two that begin alike the longer one stands first.
-const KINDS: [&str; 9] = [
-    "boolean",
-    "int",
-    "long",
-    "date",
-    "timestamptz",
-    "timestamp",
-    "time",
-    "string",
-    "binary",
-];
 
 /// Whether null may not or may stand in a column.
 const NULLS: [&str; 2] = ["required", "optional"];
@@ -131,25 +118,8 @@ fn kind_word(line: &str, place: usize) -> Result<(Kind, usize), PieceRefusal>
     ensures exact { result ≡ kind_at line.now place }
     ensures within { IfOk result (λ read. (place ≤ read.1) × (read.1 ≤ length line.now)) }
 {
-    let (index, after) = take_one_of(line, place, &KINDS)?;
-    Ok((kind_of(index), after))
-}
-
-/// The kind of a word, by its place among the words.
-fn kind_of(index: usize) -> Kind
-    ensures { result ≡ kind_of_word index }
-{
-    match index {
-        0 => Kind::Boolean,
-        1 => Kind::Int,
-        2 => Kind::Long,
-        3 => Kind::Date,
-        4 => Kind::Timestamptz,
-        5 => Kind::Timestamp,
-        6 => Kind::Time,
-        7 => Kind::Text,
-        _ => Kind::Bytes,
-    }
+    let (index, after) = take_one_of(line, place, &KIND_WORDS)?;
+    Ok((kind_of_word(index), after))
 }
 
 /// Whether a column is required, as the word at the place says, and the place behind the colon

@@ -1,4 +1,4 @@
--- A law of the numbers that fit a kind.
+-- Laws of the numbers that fit a kind.
 use Rattle.std.specs.Prelude.{◌≡◌, ◌^◌, ◌-◌, ◌<◌, ◌≤◌, ℤ, pos, negsuc, true, false, not, nat_lt}
 use Rattle.std.proofs.Common.{refl, arith}
 use Rattle.std.proofs.lemmas.Bool.{and_parts, not-true, ltb-true, ltb-false, lt-ltb, le-ltb}
@@ -7,7 +7,7 @@ use Rattle.row_types.specs.declared.column.Kind.TheVariants as kinds
 use Rattle.row_types.specs.Fits.{is_int, is_long, has_number}
 
 -- a number of 32 bits has 64 bits
-int_is_long : (number : ℤ) → is_int number ≡ true → is_long number ≡ true
+pub int_is_long : (number : ℤ) → is_int number ≡ true → is_long number ≡ true
 int_is_long (pos n) h =
     let small : n < 2 ^ 31 = ltb-true n (2 ^ 31) h in
     lt-ltb n (2 ^ 63) (omega arith)

@@ -8,4 +8,4 @@ returns-in_err-index-clause-exact c =
     rw (p.1, p.2) (kind_refused c.args.line.now c.args.place c.in_err-index.field-0.0 c.in_err-index.ensures.exact)
 
 pub returns-clause-exact : goal.returns-clause-exact
-returns-clause-exact c = kind_read c.args.line.now c.args.place c.in_ok-index.index c.in_ok-index.after c.kind_of.result c.in_ok-index.ensures.exact c.kind_of.ensures
+returns-clause-exact c = kind_read c.args.line.now c.args.place c.in_ok-index.index c.in_ok-index.after c.kind_of_word.result c.in_ok-index.ensures.exact c.kind_of_word.ensures

@@ -1,5 +1,5 @@
 use Rattle.std.proofs.Common.{rules}
-use Rattle.report.proofs.printing.kind_word.Goals as goal
+use Rattle.row_types.proofs.column.Kind.word.Goals as goal
 
 pub returns-in-Timestamptz : goal.returns-in-Timestamptz
 returns-in-Timestamptz c = search rules
