@@ -39,8 +39,8 @@ shown_of layout rest slot first sequence position id last = record {
   left = rows_from first sequence position (rows_left layout rest).objects;
 }
 
--- rows can be read: the layout is right, the slot has room for the cells, and a cell of the id and one of the last change
--- are among those that are wanted
+-- rows can be read: the layout is right, the slot has room for the cells, and the id and the last change are among what
+-- is wanted
 pub record AreReady (layout : Layout) (rest : TheRest) (slot : Cells) : Type 0 where
   pub within : IsWithin rest
   pub layout_right : IsLayout layout
