@@ -204,8 +204,23 @@ fn picked<'a>(all: &[CellRef<'a>], source: Option<usize>) -> CellRef<'a>
     ensures { lent_cell result ≡ pick (map lent_cell all.now) source }
 {
     match source {
-        Some(place) if place < all.len() => all[place],
+        Some(place) if place < all.len() => same(&all[place]),
         _ => CellRef::Null,
+    }
+}
+
+/// The same cell, put together from its parts. It was written part by part just before: a copy of
+/// the whole would have to wait for all of them.
+#[inline(always)]
+fn same<'a>(cell: &CellRef<'a>) -> CellRef<'a>
+    ensures { lent_cell result ≡ lent_cell cell.now }
+{
+    match *cell {
+        CellRef::Null => CellRef::Null,
+        CellRef::Flag(flag) => CellRef::Flag(flag),
+        CellRef::Num(number) => CellRef::Num(number),
+        CellRef::Text(text) => CellRef::Text(text),
+        CellRef::Bytes(bytes) => CellRef::Bytes(bytes),
     }
 }
 
