@@ -2,12 +2,15 @@
 
 use crate::parts::{Part, are_parts_of};
 use crate::rows::{all_made, all_right};
-use crate::schemas::ROW_SCHEMA;
 use avro_datum::{Cursor, Datum, decode, encode, skip};
 use avro_schema::{Schema, read_schema};
 use lists::Copied;
 use std::alloc::{AllocError, Global};
 use std::test::*;
+
+/// The schema of a file of rows with their ids and last changes.
+const ROW_SCHEMA: &str =
+    r#"{"type":"record","name":"row","fields":[{"name":"n","type":"long","field-id":1},{"name":"s","type":["null","string"],"default":null,"field-id":2},{"name":"_row_id","type":["null","long"],"default":null,"field-id":2147483540},{"name":"_last_updated_sequence_number","type":["null","long"],"default":null,"field-id":2147483539}]}"#;
 
 /// The text of a schema, bytes, the parts of the value that they are, and the bytes that are
 /// written for it. No bytes: those that are read.

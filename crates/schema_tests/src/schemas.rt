@@ -7,7 +7,7 @@ use std::alloc::{AllocError, Global};
 use std::test::*;
 
 /// The schema of a file of rows with their ids and last changes.
-pub const ROW_SCHEMA: &str =
+const ROW_SCHEMA: &str =
     r#"{"type":"record","name":"row","fields":[{"name":"n","type":"long","field-id":1},{"name":"s","type":["null","string"],"default":null,"field-id":2},{"name":"_row_id","type":["null","long"],"default":null,"field-id":2147483540},{"name":"_last_updated_sequence_number","type":["null","long"],"default":null,"field-id":2147483539}]}"#;
 
 /// A text, and the kind of the schema that it is.

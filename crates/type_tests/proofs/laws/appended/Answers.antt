@@ -1,5 +1,5 @@
-use Rattle.history_tests.proofs.Example.{append_is_legal, upgrade_is_history}
-use Rattle.history_tests.proofs.laws.appended.Goals as goal
+use Rattle.type_tests.proofs.Example.{append_is_legal, upgrade_is_history}
+use Rattle.type_tests.proofs.laws.appended.Goals as goal
 
 pub an_append_keeps_each_row-requires-clause-history : goal.an_append_keeps_each_row-requires-clause-history
 an_append_keeps_each_row-requires-clause-history c =

@@ -1,5 +1,5 @@
-use Rattle.history_tests.proofs.Example.{both_are_history}
-use Rattle.history_tests.proofs.laws.ended.Goals as goal
+use Rattle.type_tests.proofs.Example.{both_are_history}
+use Rattle.type_tests.proofs.laws.ended.Goals as goal
 
 pub no_id_is_given_twice-requires : goal.no_id_is_given_twice-requires
 no_id_is_given_twice-requires c =

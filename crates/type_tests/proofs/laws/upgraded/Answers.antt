@@ -1,5 +1,5 @@
-use Rattle.history_tests.proofs.Example.{upgrade_is_legal}
-use Rattle.history_tests.proofs.laws.upgraded.Goals as goal
+use Rattle.type_tests.proofs.Example.{upgrade_is_legal}
+use Rattle.type_tests.proofs.laws.upgraded.Goals as goal
 
 pub an_upgrade_changes_no_row-requires-clause-step : goal.an_upgrade_changes_no_row-requires-clause-step
 an_upgrade_changes_no_row-requires-clause-step c =

@@ -1,5 +1,5 @@
-use Rattle.history_tests.proofs.Example.{upgrade_is_history, append_goes_on, append_goes_to}
-use Rattle.history_tests.proofs.laws.gone_on.Goals as goal
+use Rattle.type_tests.proofs.Example.{upgrade_is_history, append_goes_on, append_goes_to}
+use Rattle.type_tests.proofs.laws.gone_on.Goals as goal
 
 pub next_never_falls-requires-clause-history : goal.next_never_falls-requires-clause-history
 next_never_falls-requires-clause-history c =

@@ -1,5 +1,5 @@
-use Rattle.history_tests.proofs.Example.{append_second_is_legal}
-use Rattle.history_tests.proofs.laws.named.Goals as goal
+use Rattle.type_tests.proofs.Example.{append_second_is_legal}
+use Rattle.type_tests.proofs.laws.named.Goals as goal
 
 pub rows_get_their_ids_in_order-requires-clause-step : goal.rows_get_their_ids_in_order-requires-clause-step
 rows_get_their_ids_in_order-requires-clause-step c =

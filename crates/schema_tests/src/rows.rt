@@ -1,0 +1,15 @@
+//! What is asserted of a table.
+
+use std::alloc::AllocError;
+use std::process::Abort;
+use std::test::*;
+
+/// Ends the test with the number of the first row that is wrong, counted from 0, if there is one.
+pub fn all_right(rt: &impl Abort, first_wrong: Option<usize>) {
+    assert_eq!(rt; first_wrong, None);
+}
+
+/// The same of a table whose rows take memory. `None` instead of a number: memory ran out.
+pub fn all_made(rt: &impl Abort, first_wrong: Result<Option<usize>, AllocError>) {
+    assert_eq!(rt; first_wrong.ok(), Some(None));
+}
