@@ -1,16 +1,10 @@
 //! The program: `rowline rows FIRST SEQ` prints the rows of the data file on standard input, and
 //! `rowline audit` says whether the history of the report there is legal.
-//!
-//! | Module | What it has |
-//! |---|---|
-//! | `standard` | readers and writers as sources and sinks |
 #![tactic(auto)]
 
-mod standard;
-
-use crate::standard::{ReaderSource, WriterSink};
 use avro_wire::Text;
 use lineage_cli::{Ending, run_alone, status_of, tell};
+use lt_port::{ReaderSource, WriterSink};
 use std::env;
 use std::io::ErrorKind;
 use std::process::ExitCode;

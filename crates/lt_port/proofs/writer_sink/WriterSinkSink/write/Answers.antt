@@ -1,5 +1,5 @@
 use Rattle.std.proofs.Common.{rules}
-use Rattle.rowline.proofs.standard.WriterSinkSink.write.Goals as goal
+use Rattle.lt_port.proofs.writer_sink.WriterSinkSink.write.Goals as goal
 
 pub returns-in-Ok-clause-some : goal.returns-in-Ok-clause-some
 returns-in-Ok-clause-some g c = search rules

@@ -1,6 +1,6 @@
 use Rattle.std.proofs.Common.{◌≡◌, length}
 use Rattle.std.specs.Io.KnownBytes.{Keeps}
-use Rattle.rowline.proofs.standard.ReaderSourceSource.read.Given as goal
+use Rattle.lt_port.proofs.reader_source.ReaderSourceSource.read.Given as goal
 
 abbrev pub invariant-loop : goal.invariant-loop
 invariant-loop g l = record {

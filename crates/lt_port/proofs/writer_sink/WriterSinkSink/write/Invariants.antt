@@ -1,6 +1,6 @@
 use Rattle.std.proofs.Common.{◌≡◌}
 use Rattle.std.specs.Io.KnownBytes.{Keeps}
-use Rattle.rowline.proofs.standard.WriterSinkSink.write.Given as goal
+use Rattle.lt_port.proofs.writer_sink.WriterSinkSink.write.Given as goal
 
 abbrev pub invariant-loop : goal.invariant-loop
 invariant-loop g l = record {

@@ -1,5 +1,5 @@
 use Rattle.std.proofs.Common.{rules}
-use Rattle.rowline.proofs.standard.ReaderSourceSource.read.Goals as goal
+use Rattle.lt_port.proofs.reader_source.ReaderSourceSource.read.Goals as goal
 
 pub returns-clause-bytes : goal.returns-clause-bytes
 returns-clause-bytes g c = search rules
