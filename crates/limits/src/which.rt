@@ -7,7 +7,7 @@ ghost use Rattle.limits.specs.Which.{name_of};
 use std::fmt;
 
 /// A quantity that has a limit. It prints as the variant's name. docs/FORMATS.md, "Limits".
-#[derive(Clone, Copy, Debug, PartialEq, Eq)]
+#[derive(Clone, Copy, PartialEq, Eq)]
 pub enum Which {
     /// The bytes of an input.
     Input,

@@ -23,7 +23,8 @@ use Rattle.stored_rows.specs.declared.refusal.RowRefusal.{RowRefusal}
 use Rattle.stored_rows.specs.declared.refusal.RowRefusal.TheVariants.{Rest}
 use Rattle.stored_rows.specs.Refusal.{is_memory}
 use Rattle.stored_rows.specs.Field.{check_fields}
-use Rattle.stored_rows.specs.Rows.{most_rows, rows_from}
+use Rattle.limits.specs.Limits.{most_rows}
+use Rattle.stored_rows.specs.Rows.{rows_from}
 use Rattle.row_reading.specs.Wanted.{row_wanted, row_in_record}
 use Rattle.row_reading.specs.File.{row_at, check_counts, check_told, check_ids, opened, rows_in, rows_of}
 use Rattle.row_reading.specs.Checking.{check_before_rows, Rows, rows_in_blocks, check_all_rows, HaveIds, AreRight}

@@ -6,7 +6,7 @@ use Rattle.avro_container.specs.declared.container.Block.{Block}
 use Rattle.stored_rows.specs.declared.refusal.RowRefusal.TheVariants.{Limit}
 use Rattle.objects.specs.Blocks.{count_of, count_all}
 use Rattle.row_reading.specs.File.{check_counts}
-use Rattle.stored_rows.specs.Rows.{most_rows}
+use Rattle.limits.specs.Limits.{most_rows}
 
 -- a block's count is added
 pub counts_on : (before count : ℕ) (blocks : List Block) (block : Block) (others : List Block) → blocks ≡ block ∷ others → count_of block ≡ count → before + count ≤ most_rows

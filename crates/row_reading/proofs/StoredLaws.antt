@@ -107,7 +107,7 @@ module _ (laws : Laws) where
       let Stores = StoresRow columns schema in
       let fields = fields_checked (fields_of schema) columns stores.readable in
       let many = held_counted Stores blocks stored stores.blocks in
-      let counts = counts_few blocks 0 (omega (arith, read.few, many)) in
+      let counts = counts_few blocks 0 (omega (arith, read.within.few, many)) in
       rw (fields, counts) (objects_only (row_at schema columns) Stores (agrees schema columns stores.readable) Rest blocks stored stores.blocks)
 
   -- ---- the checks
@@ -143,6 +143,6 @@ module _ (laws : Laws) where
       → rows_of bytes columns first sequence told ≡ Ok (rows_from first sequence 0 stored)
   unfolding rows_of
   rows_only bytes columns first sequence told stored stores read =
-      let file = opened_again bytes stores.container stores.schema stores.text stores.framed stores.bound stores.written read.size in
+      let file = opened_again bytes stores.container stores.schema stores.text stores.framed stores.bound stores.written read.within.size in
       let rows = rows_in_again bytes columns stored stores first told read in
       rw (file, rows, told_passes told (length stored) read.as_told, ids_pass first (length stored) read.ids) refl

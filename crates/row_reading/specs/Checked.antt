@@ -11,7 +11,8 @@ use Rattle.fields.specs.declared.taking.Cells.{Cells}
 use Rattle.fields.specs.Record.{IsLayout, IsWide}
 use Rattle.stored_rows.specs.declared.refusal.RowRefusal.{RowRefusal}
 use Rattle.stored_rows.specs.declared.refusal.RowRefusal.TheVariants.{Rest}
-use Rattle.stored_rows.specs.Rows.{rows_from, most_rows}
+use Rattle.limits.specs.Limits.{most_rows}
+use Rattle.stored_rows.specs.Rows.{rows_from}
 use Rattle.row_reading.specs.Wanted.{row_of_cells, row_in_record}
 use Rattle.row_reading.specs.Checking.{Rows, HaveIds}
 

@@ -14,7 +14,8 @@ use Rattle.fields.specs.Wanted.{fields_of}
 use Rattle.stored_rows.specs.declared.refusal.RowRefusal.{RowRefusal}
 use Rattle.stored_rows.specs.declared.refusal.RowRefusal.TheVariants.{Rest}
 use Rattle.stored_rows.specs.Field.{check_fields}
-use Rattle.stored_rows.specs.Rows.{most_rows, rows_from}
+use Rattle.limits.specs.Limits.{most_rows}
+use Rattle.stored_rows.specs.Rows.{rows_from}
 use Rattle.row_reading.specs.File.{Opened, row_at, check_counts, check_told, check_ids}
 
 -- the columns can be read from the file's fields, and its blocks have together no more rows than a file may have

@@ -21,7 +21,8 @@ use Rattle.stored_rows.specs.declared.refusal.RowRefusal.TheVariants.{Rest, Reco
 use Rattle.stored_rows.specs.Refusal.{container_refusal, schema_refusal}
 use Rattle.fields.specs.Wanted.{fields_of}
 use Rattle.stored_rows.specs.Field.{check_fields}
-use Rattle.stored_rows.specs.Rows.{most_rows, rows_from}
+use Rattle.limits.specs.Limits.{most_rows}
+use Rattle.stored_rows.specs.Rows.{rows_from}
 use Rattle.row_reading.specs.Wanted.{row_wanted, row_in_record}
 
 -- ---- a row

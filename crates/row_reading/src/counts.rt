@@ -3,7 +3,7 @@
 ghost use Rattle.std.specs.Prelude.{◌≡◌, ◌≤◌, IfOk};
 ghost use Rattle.words.specs.Reading.{Gives, never};
 ghost use Rattle.objects.specs.Blocks.{count_all};
-ghost use Rattle.stored_rows.specs.Rows.{most_rows};
+ghost use Rattle.limits.specs.Limits.{most_rows};
 ghost use Rattle.row_reading.specs.File.{check_counts, check_told, check_ids};
 
 use avro_container::Walk;

@@ -29,7 +29,7 @@ use Rattle.avro_container.specs.Writing.{container_text}
 use Rattle.stored_rows.specs.declared.refusal.RowRefusal.{RowRefusal}
 use Rattle.stored_rows.specs.declared.refusal.RowRefusal.TheVariants.{Limit}
 use Rattle.stored_rows.specs.Field.{row_id_field, last_updated_field}
-use Rattle.stored_rows.specs.Rows.{most_rows}
+use Rattle.limits.specs.Limits.{most_rows}
 
 -- the type that the cells of a kind are written as
 abbrev pub written_type : Kind → Schema

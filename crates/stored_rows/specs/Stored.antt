@@ -1,7 +1,8 @@
 -- Which rows a data file stores, whatever reads it: the promise of a reader of rows.
 -- Avro 1.11, "Object Container Files"; Iceberg spec, "Column Projection", "Row Lineage".
-use Rattle.std.specs.Prelude.{◌≡◌, ℕ, ◌≤◌, ◌^◌, ◌-◌, ℤ, pos, ◌+ℤ◌, ◌≤ℤ◌, true, false, List, [], ◌∷◌}
+use Rattle.std.specs.Prelude.{◌≡◌, ℕ, ◌^◌, ◌-◌, ℤ, pos, ◌+ℤ◌, ◌≤ℤ◌, true, false, List, [], ◌∷◌}
 use Rattle.std.specs.Prelude.{All, Option, Some, None, IfSome}
+use Rattle.limits.specs.Limits.{IsWithinLimits}
 use Rattle.row_types.specs.declared.cell.Cell.{Cell}
 use Rattle.row_types.specs.declared.column.Column.{Column}
 use Rattle.row_types.specs.declared.column.Kind.TheVariants as kinds
@@ -14,7 +15,6 @@ use Rattle.datum_tree.specs.declared.datum.Datum.{Datum}
 use Rattle.datum_tree.specs.Spelling.{IsEncoding}
 use Rattle.avro_container.specs.declared.container.Container.{Container}
 use Rattle.avro_container.specs.Header.{schema_key, bound_to}
-use Rattle.avro_container.specs.Container.{most_bytes}
 use Rattle.avro_container.specs.Format.{IsContainer}
 use Rattle.objects.specs.Held.{Hold}
 use Rattle.cell_reading.specs.Kind.{is_allowed}
@@ -23,7 +23,7 @@ use Rattle.stored_rows.specs.Field.{Found, find, row_id_field, last_updated_fiel
 use Rattle.row_types.specs.CellRef.{is_null}
 use Rattle.cell_reading.specs.Value.{values_of}
 use Rattle.stored_rows.specs.Row.{stored_row}
-use Rattle.stored_rows.specs.Rows.{most_rows, rows_from}
+use Rattle.stored_rows.specs.Rows.{rows_from}
 
 -- ---- the columns
 
@@ -86,7 +86,6 @@ pub record ReadsRows (bytes : List ℕ) (columns : List Column) (first : Option 
 -- so many rows of a file of so many bytes are read: they are within the limits, as many as the caller says, and the
 -- file's first row id plus their number is at most the largest long
 pub record AreRead (first told : Option ℤ) (bytes rows : ℕ) : Type 0 where
-  pub size : bytes ≤ most_bytes
-  pub few : rows ≤ most_rows
+  pub within : IsWithinLimits bytes rows
   pub as_told : IfSome told (λ number. number ≡ pos rows)
   pub ids : IfSome first (λ id. (id +ℤ pos rows) ≤ℤ pos (2 ^ 63 - 1))

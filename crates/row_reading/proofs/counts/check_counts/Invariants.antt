@@ -1,7 +1,7 @@
 use Rattle.std.proofs.Common.{◌≡◌, ◌+◌, ◌≤◌, length}
 use Rattle.objects.specs.Blocks.{count_all}
 use Rattle.row_reading.specs.File.{check_counts}
-use Rattle.stored_rows.specs.Rows.{most_rows}
+use Rattle.limits.specs.Limits.{most_rows}
 use Rattle.row_reading.proofs.counts.check_counts.Given as goal
 
 abbrev pub invariant-loop-count : goal.invariant-loop-count
