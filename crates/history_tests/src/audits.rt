@@ -202,241 +202,40 @@ fn is_case(alloc: Global, columns: &Columns, case: &Case) -> bool {
     is_said(&audited, &case.2)
 }
 
-/// Histories: of a new table, of a table of version 2, of states without entries, and with large
-/// numbers.
-static HISTORIES: [Case; 47] = [
-    // A new table: no entry.
-    (NEW, &[], Legal(3, 0, 0, Some(0), 0)),
+/// Histories, one of each kind. Many more are computed from the definitions in `lineage_model`
+/// (specs/Examples.antt).
+static HISTORIES: [Case; 6] = [
     // Two appends.
     (
         NEW,
         &[FIRST, (Append(3), Some(2), &[], &[(2, 3)], Some(5))],
         Legal(3, 5, 0, Some(5), 2),
     ),
-    // A next id that is not above the last id.
-    (
-        NEW,
-        &[FIRST, (Append(3), Some(2), &[], &[(2, 3)], Some(4))],
-        Broken(2, Rule::Fresh),
-    ),
-    // Fewer ids than rows.
-    (
-        NEW,
-        &[FIRST, (Append(3), Some(2), &[], &[(2, 2)], Some(5))],
-        Broken(2, Rule::Given),
-    ),
-    // An id that is given already.
-    (
-        NEW,
-        &[FIRST, (Append(3), Some(2), &[], &[(1, 3)], Some(5))],
-        Broken(2, Rule::Fresh),
-    ),
-    // A gap, and runs that don't rise behind it.
-    (
-        NEW,
-        &[FIRST, (Append(2), Some(2), &[], &[(8, 1), (7, 1)], Some(9))],
-        Broken(2, Rule::Fresh),
-    ),
-    // Gaps before, between and behind the ids.
-    (
-        NEW,
-        &[
-            FIRST,
-            (Append(2), Some(2), &[], &[(7, 1), (9, 1)], Some(20)),
-        ],
-        Legal(3, 4, 0, Some(20), 2),
-    ),
-    // A compaction, which spends ids.
-    (
-        NEW,
-        &[FIRST, (Compact, Some(2), &[], &[], Some(3))],
-        Legal(3, 2, 0, Some(3), 2),
-    ),
-    // A compaction behind which the next id falls.
-    (
-        NEW,
-        &[FIRST, (Compact, Some(2), &[], &[], Some(1))],
-        Broken(2, Rule::Fresh),
-    ),
-    // A compaction that gives an id.
-    (
-        NEW,
-        &[FIRST, (Compact, Some(2), &[], &[(2, 1)], Some(3))],
-        Broken(2, Rule::Given),
-    ),
-    // An upgrade, which has every other fault too.
-    (
-        NEW,
-        &[FIRST, (Upgrade, Some(9), &[(0, 1)], &[(0, 1)], None)],
-        Broken(2, Rule::Version),
-    ),
-    // An append that names an id.
-    (
-        NEW,
-        &[FIRST, (Append(1), Some(2), &[(2, 1)], &[(3, 1)], Some(4))],
-        Broken(2, Rule::Named),
-    ),
-    // A table of version 2: an append, which gives no ids.
-    (
-        OLD,
-        &[(Append(2), Some(3), &[], &[], None)],
-        Legal(2, 0, 3, None, 3),
-    ),
-    // An upgrade, which changes no row.
-    (OLD, &[UPGRADE], Legal(3, 0, 1, Some(0), 2)),
-    // An append behind it.
-    (OLD, &[UPGRADE, NAMED], Legal(3, 2, 0, Some(2), 3)),
-    // A compaction behind that.
+    // A compaction behind an upgrade and an append that names a row.
     (
         OLD,
         &[UPGRADE, NAMED, (Compact, Some(4), &[], &[], Some(2))],
         Legal(3, 2, 0, Some(2), 4),
     ),
-    // A compaction in version 2.
-    (
-        OLD,
-        &[(Compact, Some(3), &[], &[], None)],
-        Broken(1, Rule::Version),
-    ),
-    // A compaction while a row has no id.
+    // A rule that is broken by the second entry.
     (
         OLD,
         &[UPGRADE, (Compact, Some(3), &[(0, 1)], &[], Some(1))],
         Broken(2, Rule::Unnamed),
     ),
-    // An upgrade with a sequence number.
-    (
-        OLD,
-        &[(Upgrade, Some(3), &[], &[], Some(0))],
-        Broken(1, Rule::Seq),
-    ),
-    // An upgrade to another next id than 0.
-    (
-        OLD,
-        &[(Upgrade, None, &[], &[], Some(1))],
-        Broken(1, Rule::Next),
-    ),
-    // An upgrade that names a row.
-    (
-        OLD,
-        &[(Upgrade, None, &[(0, 1)], &[], Some(0))],
-        Broken(1, Rule::Named),
-    ),
-    // A next id in version 2.
-    (
-        OLD,
-        &[(Append(1), Some(3), &[], &[], Some(0))],
-        Broken(1, Rule::Next),
-    ),
-    // An id given in version 2.
-    (
-        OLD,
-        &[(Append(1), Some(3), &[], &[(0, 1)], None)],
-        Broken(1, Rule::Given),
-    ),
-    // No id for the row without one.
-    (
-        OLD,
-        &[UPGRADE, (Append(1), Some(3), &[], &[(0, 1)], Some(1))],
-        Broken(2, Rule::Named),
-    ),
-    // A given id below a named one.
-    (
-        OLD,
-        &[UPGRADE, (Append(1), Some(3), &[(1, 1)], &[(0, 1)], Some(2))],
-        Broken(2, Rule::Fresh),
-    ),
-    // No next id in version 3.
-    (
-        OLD,
-        &[UPGRADE, (Append(1), Some(3), &[(0, 1)], &[(1, 1)], None)],
-        Broken(2, Rule::Next),
-    ),
-    // States without entries: ids and last changes at both ends.
-    (
-        (3, Some(9), 4, &[], &[(0, 0), (8, 4)]),
-        &[],
-        Legal(3, 2, 0, Some(9), 4),
-    ),
-    // Rows without ids.
-    (
-        (3, Some(9), 4, &[4, 0], &[]),
-        &[],
-        Legal(3, 0, 2, Some(9), 4),
-    ),
-    // Version 1.
+    // A start that no history has.
     ((1, None, 0, &[], &[]), &[], Broken(0, Rule::Start)),
-    // Version 4.
-    ((4, Some(0), 0, &[], &[]), &[], Broken(0, Rule::Start)),
-    // Version 2 with a next id.
-    ((2, Some(0), 0, &[], &[]), &[], Broken(0, Rule::Start)),
-    // Version 3 without one.
-    ((3, None, 0, &[], &[]), &[], Broken(0, Rule::Start)),
-    // A next id below 0.
-    ((3, Some(-1), 0, &[], &[]), &[], Broken(0, Rule::Start)),
-    // A number below 0.
-    ((2, None, -1, &[], &[]), &[], Broken(0, Rule::Start)),
-    // An id in version 2.
-    ((2, None, 1, &[], &[(0, 1)]), &[], Broken(0, Rule::Start)),
-    // An id below 0.
-    (
-        (3, Some(1), 1, &[], &[(-1, 1)]),
-        &[],
-        Broken(0, Rule::Start),
-    ),
-    // An id that is the next.
-    ((3, Some(1), 1, &[], &[(1, 1)]), &[], Broken(0, Rule::Start)),
-    // A change to come.
-    ((3, Some(1), 1, &[], &[(0, 2)]), &[], Broken(0, Rule::Start)),
-    // A change below 0.
-    (
-        (3, Some(1), 1, &[], &[(0, -1)]),
-        &[],
-        Broken(0, Rule::Start),
-    ),
-    // A change to come, without id.
-    ((2, None, 1, &[2], &[]), &[], Broken(0, Rule::Start)),
-    // Rows with and without ids.
-    (
-        (3, Some(1), 1, &[1], &[(0, 1)]),
-        &[],
-        Broken(0, Rule::Start),
-    ),
-    // Large numbers: a run of more ids than there is time for.
+    // A run of more ids than there is time for.
     (
         NEW,
         &[(Append(1), Some(1), &[], &[(0, MOST), (0, MOST)], Some(MOST))],
         Broken(1, Rule::Given),
     ),
-    // A run of none.
+    // Runs of none.
     (
         NEW,
         &[(Append(1), Some(1), &[], &[(7, 0), (0, 1), (5, -3)], Some(1))],
         Legal(3, 1, 0, Some(1), 1),
-    ),
-    // The last id but one.
-    (
-        NEW,
-        &[(Append(1), Some(1), &[], &[(MOST - 1, 1)], Some(MOST))],
-        Legal(3, 1, 0, Some(MOST), 1),
-    ),
-    // The last id, behind which there is no next one.
-    (
-        NEW,
-        &[(Append(1), Some(1), &[], &[(MOST, 1)], Some(MOST))],
-        Broken(1, Rule::Fresh),
-    ),
-    // The last sequence number but one.
-    (
-        (3, Some(0), MOST - 1, &[], &[]),
-        &[(Compact, Some(MOST), &[], &[], Some(0))],
-        Legal(3, 0, 0, Some(0), MOST),
-    ),
-    // The last one, which has no next one.
-    (
-        (3, Some(0), MOST, &[], &[]),
-        &[(Compact, Some(MOST), &[], &[], Some(0))],
-        Broken(1, Rule::Seq),
     ),
 ];
 

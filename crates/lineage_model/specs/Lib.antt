@@ -5,3 +5,4 @@ pub mod Asked
 pub mod Opening
 pub mod Step
 pub mod History
+pub mod Examples

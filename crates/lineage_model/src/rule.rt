@@ -8,7 +8,7 @@ use std::fmt;
 
 /// A rule of a history, in the order in which the rules are looked at. It prints as the variant's
 /// name. docs/LINEAGE.md, "The rules of a history".
-#[derive(Clone, Copy, Debug, PartialEq, Eq)]
+#[derive(Clone, Copy, PartialEq, Eq)]
 pub enum Rule {
     /// The state at the start is right.
     Start,

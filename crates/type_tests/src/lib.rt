@@ -1,12 +1,9 @@
-//! Tests of the plain types, and of the laws of histories.
+//! Tests of the plain types.
 //!
 //! | Module | What it tries |
 //! |---|---|
 //! | `plain_types` | lists, columns, rows by their ids, and copies |
-//! | `laws` | that the laws of a history can be called |
 #![tactic(auto)]
 
-#[cfg(test)]
-mod laws;
 #[cfg(test)]
 mod plain_types;
