@@ -11,7 +11,7 @@ use std::alloc::{AllocError, AllocFailed};
 
 /// Why bytes are no container: the first cause in the order of the bytes. Places count bytes from 0,
 /// blocks from 1.
-#[derive(Debug, Drop)]
+#[derive(Drop)]
 pub enum ContainerRefusal {
     /// There are more bytes than an object may have. `found` is their number.
     Limit { found: u64 },

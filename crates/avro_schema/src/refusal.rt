@@ -16,7 +16,7 @@ use schema_tree::Name;
 use std::alloc::{AllocError, AllocFailed, Global};
 
 /// Why a text is no schema: the first cause from the top. docs/FORMATS.md, "Avro schemas".
-#[derive(Debug, Drop)]
+#[derive(Drop)]
 pub enum SchemaRefusal {
     /// The text is no JSON text.
     NotJson,

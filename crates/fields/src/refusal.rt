@@ -7,7 +7,7 @@ use datum_reading::DatumRefusal;
 use std::alloc::{AllocError, AllocFailed};
 
 /// Why a record has not what is wanted.
-#[derive(Debug, Drop)]
+#[derive(Drop)]
 pub enum FieldRefusal {
     /// The schema has no field of this id with an allowed type, or a record has a null there.
     MissingField { id: i32 },

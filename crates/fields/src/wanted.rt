@@ -12,7 +12,7 @@ use row_types::Kind;
 use schema_tree::{Field, Schema};
 
 /// A field that is wanted.
-#[derive(Clone, Copy, Debug, PartialEq, Eq)]
+#[derive(Clone, Copy, PartialEq, Eq)]
 pub struct Wanted {
     /// The id of the field whose record has it. None: it is a field of the outer record.
     pub parent: Option<i32>,

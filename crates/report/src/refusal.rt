@@ -11,7 +11,7 @@ use row_types::ColumnsRefusal;
 use std::alloc::{AllocError, AllocFailed};
 
 /// Why bytes are no report.
-#[derive(Clone, Copy, Debug, PartialEq, Eq)]
+#[derive(Clone, Copy, PartialEq, Eq)]
 pub enum ReportRefusal {
     /// The first line that is wrong, counted from 1. Where the report ends too soon it is the line
     /// behind the last whole one.

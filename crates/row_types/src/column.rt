@@ -5,7 +5,7 @@ use lists::Copied;
 use std::alloc::{AllocError, Global};
 
 /// What the cells of a column are. Iceberg spec, "Primitive Types".
-#[derive(Clone, Copy, Debug, PartialEq, Eq)]
+#[derive(Clone, Copy, PartialEq, Eq)]
 pub enum Kind {
     Boolean,
     /// Numbers of 32 bits.

@@ -22,7 +22,7 @@ const LARGEST_ID: i32 = 2_147_483_447;
 const MOST_NAME_BYTES: usize = 255;
 
 /// Why a list is not the columns of a table: the first fault in this order.
-#[derive(Debug, Drop)]
+#[derive(Drop)]
 pub enum ColumnsRefusal {
     /// There is no column, or there are more than 200. `found` is their number.
     Count { found: u64 },
