@@ -5,7 +5,8 @@
 #![tactic(auto)]
 
 pub use history_types::{Entries, Entry, Paths, Request, Run, Runs, State};
-pub use limits::{FILE_ROWS, INPUT, OBJECT, ROWS_INPUT, Which};
+pub use limits as limits;
+pub use limits::Which;
 pub use row_types::{
     Cell, CellRows, Cells, Column, Columns, ColumnsRefusal, Kind, Row, RowList, RowMap, StoredRow,
     StoredRows, Unnamed,
