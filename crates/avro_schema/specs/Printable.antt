@@ -6,8 +6,8 @@ use Rattle.schema_tree.specs.declared.schema.Schema.{Schema}
 use Rattle.schema_tree.specs.declared.schema.Schema.TheOpen.{Schema-F, Field-F, Null, Boolean, Int, Long, Float}
 use Rattle.schema_tree.specs.declared.schema.Schema.TheOpen.{Double, Raw, Str, Fixed, Enum, Rec, Array, Map, Union}
 use Rattle.schema_tree.specs.declared.schema.Schema.TheFolds.{fold-Schema}
-use Rattle.schema_tree.specs.declared.schema.Logical.{Logical}
-use Rattle.schema_tree.specs.declared.schema.Logical.TheVariants.{Plain, Date, TimeMicros, StampMicros, StampMicrosUtc}
+use Rattle.schema_tree.specs.declared.logical.Logical.{Logical}
+use Rattle.schema_tree.specs.declared.logical.Logical.TheVariants.{Plain, Date, TimeMicros, StampMicros, StampMicrosUtc}
 use Rattle.schema_tree.specs.Tree.{depth, size, largest}
 
 -- ---- names. Avro 1.11, "Names"

@@ -7,8 +7,8 @@ use Rattle.cell_reading.specs.declared.kind.Primitive.TheVariants as primitives
 use Rattle.schema_tree.specs.declared.schema.Schema.{Schema, out-Schema}
 use Rattle.schema_tree.specs.declared.schema.Field.{Field}
 use Rattle.schema_tree.specs.declared.schema.Schema.TheOpen.{Schema-F, Null, Boolean, Int, Long, Raw, Str, Union}
-use Rattle.schema_tree.specs.declared.schema.Logical.{Logical}
-use Rattle.schema_tree.specs.declared.schema.Logical.TheVariants.{Date, TimeMicros, StampMicros, StampMicrosUtc}
+use Rattle.schema_tree.specs.declared.logical.Logical.{Logical}
+use Rattle.schema_tree.specs.declared.logical.Logical.TheVariants.{Date, TimeMicros, StampMicros, StampMicrosUtc}
 
 -- one level of a schema
 abbrev pub Level : Type 0

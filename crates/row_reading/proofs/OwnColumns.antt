@@ -14,8 +14,8 @@ use Rattle.row_types.specs.declared.column.Kind.{Kind}
 use Rattle.row_types.specs.Columns.{first_fault, has_id, has_wrong_id, has_wrong_name, most_columns}
 use Rattle.schema_tree.specs.declared.schema.Schema.{Schema, out-Schema}
 use Rattle.schema_tree.specs.declared.schema.Schema.TheOpen.{Boolean, Int, Long, Str, Raw}
-use Rattle.schema_tree.specs.declared.schema.Logical.{Logical}
-use Rattle.schema_tree.specs.declared.schema.Logical.TheVariants.{Date, TimeMicros, StampMicros, StampMicrosUtc}
+use Rattle.schema_tree.specs.declared.logical.Logical.{Logical}
+use Rattle.schema_tree.specs.declared.logical.Logical.TheVariants.{Date, TimeMicros, StampMicros, StampMicrosUtc}
 use Rattle.schema_tree.specs.declared.schema.Field.{Field, out-Field}
 use Rattle.avro_container.specs.declared.container.Container.{Container}
 use Rattle.words.specs.Steps.{bind_then, test_failed, ok_is}

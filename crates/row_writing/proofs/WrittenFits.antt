@@ -15,7 +15,7 @@ use Rattle.schema_tree.specs.declared.schema.Schema.TheOpen.{Schema-F}
 use Rattle.schema_tree.specs.declared.schema.Schema.TheVariants as schemas
 use Rattle.schema_tree.specs.declared.schema.Schema.TheFolds.{map-Schema, fold-roll-Schema, fold_out-Field}
 use Rattle.schema_tree.specs.declared.schema.Field.{Field, out-Field}
-use Rattle.schema_tree.specs.declared.schema.Logical.TheVariants.{Plain}
+use Rattle.schema_tree.specs.declared.logical.Logical.TheVariants.{Plain}
 use Rattle.datum_tree.specs.declared.datum.Datum.{Datum, out-Datum}
 use Rattle.datum_tree.specs.declared.datum.Datum.TheOpen as values
 use Rattle.datum_tree.specs.declared.datum.Datum.TheVariants as datums

@@ -16,7 +16,7 @@ use Rattle.schema_tree.specs.declared.schema.Schema.{Schema, out-Schema, roll-Sc
 use Rattle.schema_tree.specs.declared.schema.Schema.TheOpen as layers
 use Rattle.schema_tree.specs.declared.schema.Schema.TheVariants as schemas
 use Rattle.schema_tree.specs.declared.schema.Field.{Field, out-Field}
-use Rattle.schema_tree.specs.declared.schema.Logical.TheVariants.{Plain, Date, TimeMicros, StampMicros, StampMicrosUtc}
+use Rattle.schema_tree.specs.declared.logical.Logical.TheVariants.{Plain, Date, TimeMicros, StampMicros, StampMicrosUtc}
 use Rattle.cell_reading.specs.Kind.{Level, is_null, nullable_level, beside_null, holds, is_allowed_as, is_allowed}
 use Rattle.fields.specs.Wanted.{fields_of, fields_of_level}
 use Rattle.stored_rows.specs.Field.{Found, is_this, find_from, find, row_id_field}

@@ -15,7 +15,7 @@ use Rattle.limits.specs.declared.which.Which.TheVariants.{FileRows, Object}
 use Rattle.schema_tree.specs.declared.schema.Schema.{Schema}
 use Rattle.schema_tree.specs.declared.schema.Schema.TheVariants as schemas
 use Rattle.schema_tree.specs.declared.schema.Field.{Field, roll-Field}
-use Rattle.schema_tree.specs.declared.schema.Logical.TheVariants.{Plain, Date, TimeMicros, StampMicros, StampMicrosUtc}
+use Rattle.schema_tree.specs.declared.logical.Logical.TheVariants.{Plain, Date, TimeMicros, StampMicros, StampMicrosUtc}
 use Rattle.avro_schema.specs.Printing.{schema_text}
 use Rattle.avro_schema.specs.Printable.{is_avro_name}
 use Rattle.datum_tree.specs.declared.datum.Datum.{Datum}
