@@ -11,11 +11,11 @@ use Rattle.datum_reading.specs.declared.cursor.Cursor.{Cursor}
 use Rattle.datum_tree.specs.declared.datum.Datum.{Datum}
 use Rattle.datum_reading.specs.declared.refusal.DatumRefusal.{DatumRefusal}
 use Rattle.datum_reading.specs.Reading.{flag_at, num_at, sized_at, text_at, choice_at, datum_at}
-use Rattle.cell_reading.specs.declared.form.Form.{Form}
-use Rattle.cell_reading.specs.declared.kind.Primitive.{Primitive}
-use Rattle.cell_reading.specs.declared.kind.Primitive.TheVariants as primitives
-use Rattle.cell_reading.specs.Kind.{Level, Nullable, nullable, is_null, primitive_of}
-use Rattle.cell_reading.specs.Value.{cell_of}
+use Rattle.avro_cells.specs.declared.form.Form.{Form}
+use Rattle.avro_cells.specs.declared.kind.Primitive.{Primitive}
+use Rattle.avro_cells.specs.declared.kind.Primitive.TheVariants as primitives
+use Rattle.avro_cells.specs.Kind.{Level, Nullable, nullable, is_null, primitive_of}
+use Rattle.avro_cells.specs.Value.{cell_of}
 
 -- ---- how the cells of a type are read
 

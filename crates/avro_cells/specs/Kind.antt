@@ -1,14 +1,16 @@
--- Which Avro types hold the cells of a column. Iceberg spec, "Appendix A: Format-specific Requirements", "Avro".
+-- Which Avro types hold the cells of a column, and the type that they are written as.
+-- Iceberg spec, "Appendix A: Format-specific Requirements", "Avro".
 use Rattle.std.specs.Prelude.{Bool, true, false, List, [], ◌∷◌, Option, Some, None}
 use Rattle.row_types.specs.declared.column.Kind.{Kind}
 use Rattle.row_types.specs.declared.column.Kind.TheVariants as kinds
-use Rattle.cell_reading.specs.declared.kind.Primitive.{Primitive}
-use Rattle.cell_reading.specs.declared.kind.Primitive.TheVariants as primitives
+use Rattle.avro_cells.specs.declared.kind.Primitive.{Primitive}
+use Rattle.avro_cells.specs.declared.kind.Primitive.TheVariants as primitives
 use Rattle.schema_tree.specs.declared.schema.Schema.{Schema, out-Schema}
+use Rattle.schema_tree.specs.declared.schema.Schema.TheVariants as schemas
 use Rattle.schema_tree.specs.declared.schema.Field.{Field}
 use Rattle.schema_tree.specs.declared.schema.Schema.TheOpen.{Schema-F, Null, Boolean, Int, Long, Raw, Str, Union}
 use Rattle.schema_tree.specs.declared.logical.Logical.{Logical}
-use Rattle.schema_tree.specs.declared.logical.Logical.TheVariants.{Date, TimeMicros, StampMicros, StampMicrosUtc}
+use Rattle.schema_tree.specs.declared.logical.Logical.TheVariants.{Plain, Date, TimeMicros, StampMicros, StampMicrosUtc}
 
 -- one level of a schema
 abbrev pub Level : Type 0
@@ -103,3 +105,19 @@ kind_of (Long logical) = Some (long_kind logical)
 kind_of Str = Some kinds.Text
 kind_of Raw = Some kinds.Bytes
 kind_of _ = None
+
+-- the type that the cells of a kind are written as
+abbrev pub written_type : Kind → Schema
+written_type kinds.Boolean = schemas.Boolean
+written_type kinds.Int = schemas.Int Plain
+written_type kinds.Long = schemas.Long Plain
+written_type kinds.Date = schemas.Int Date
+written_type kinds.Time = schemas.Long TimeMicros
+written_type kinds.Timestamp = schemas.Long StampMicros
+written_type kinds.Timestamptz = schemas.Long StampMicrosUtc
+written_type kinds.Text = schemas.Str
+written_type kinds.Bytes = schemas.Raw
+
+-- a type beside null, which comes first
+abbrev pub optional_type : Schema → Schema
+optional_type type = schemas.Union (schemas.Null ∷ type ∷ [])

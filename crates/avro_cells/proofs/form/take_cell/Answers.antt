@@ -1,5 +1,5 @@
-use Rattle.cell_reading.proofs.FormLemmas.{form_reads}
-use Rattle.cell_reading.proofs.form.take_cell.Goals as goal
+use Rattle.avro_cells.proofs.FormLemmas.{form_reads}
+use Rattle.avro_cells.proofs.form.take_cell.Goals as goal
 
 pub returns-clause-reads : goal.returns-clause-reads
 returns-clause-reads c = λ schema is.

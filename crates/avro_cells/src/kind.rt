@@ -1,12 +1,14 @@
-//! Which types hold the cells of a column.
+//! Which types hold the cells of a column, and the type that they are written as.
 
-ghost use Rattle.std.specs.Prelude.{◌≡◌, MatchOption};
+ghost use Rattle.std.specs.Prelude.{◌≡◌, IfOk, MatchOption};
 ghost use Rattle.std.specs.declared.option.Option.TheVariants.{None, Some};
 ghost use Rattle.schema_tree.specs.declared.schema.Schema.{out-Schema};
-ghost use Rattle.cell_reading.specs.Kind.{nullable, beside_null, is_null, primitive_of, is_read_from, holds, is_allowed, int_kind, long_kind, kind_of};
+ghost use Rattle.avro_cells.specs.Kind.{nullable, beside_null, is_null, primitive_of, is_read_from, holds, is_allowed, int_kind, long_kind, kind_of, written_type, optional_type};
 
+use lists::List;
 use row_types::Kind;
 use schema_tree::{Logical, Schema};
+use std::alloc::{AllocError, Global};
 
 /// A primitive type of cells. Avro spec, "Primitive Types".
 #[derive(Clone, Copy, PartialEq, Eq)]
@@ -155,4 +157,32 @@ fn long_kind(logical: Logical) -> Kind
         Logical::StampMicrosUtc => Kind::Timestamptz,
         _ => Kind::Long,
     }
+}
+
+/// The type that the cells of a kind are written as. Iceberg spec, "Appendix A: Format-specific
+/// Requirements", "Avro".
+pub fn written_type(kind: Kind) -> Schema
+    ensures { result ≡ written_type kind }
+{
+    match kind {
+        Kind::Boolean => Schema::Boolean,
+        Kind::Int => Schema::Int(Logical::Plain),
+        Kind::Long => Schema::Long(Logical::Plain),
+        Kind::Date => Schema::Int(Logical::Date),
+        Kind::Time => Schema::Long(Logical::TimeMicros),
+        Kind::Timestamp => Schema::Long(Logical::StampMicros),
+        Kind::Timestamptz => Schema::Long(Logical::StampMicrosUtc),
+        Kind::Text => Schema::Str,
+        Kind::Bytes => Schema::Raw,
+    }
+}
+
+/// The type beside null, which comes first. An `Err` says that memory ran out.
+pub fn optional_type(alloc: Global, schema: Schema) -> Result<Schema, AllocError>
+    ensures { IfOk result (λ both. both ≡ optional_type schema) }
+{
+    let mut branches = Vec::new(alloc);
+    branches.push(Schema::Null)?;
+    branches.push(schema)?;
+    Ok(Schema::Union(List::from_vec(branches)))
 }

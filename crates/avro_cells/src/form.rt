@@ -6,8 +6,8 @@ ghost use Rattle.schema_tree.specs.declared.schema.Schema.{out-Schema};
 ghost use Rattle.row_types.specs.CellRef.{lent_cell};
 ghost use Rattle.std.specs.declared.option.Option.TheVariants.{Some};
 ghost use Rattle.schema_tree.specs.declared.schema.Schema.{Schema as ASchema};
-ghost use Rattle.cell_reading.specs.Form as spec;
-ghost use Rattle.cell_reading.specs.Form.{null_branch, form_of, primitive_at, form_at, cell_read};
+ghost use Rattle.avro_cells.specs.Form as spec;
+ghost use Rattle.avro_cells.specs.Form.{null_branch, form_of, primitive_at, form_at, cell_read};
 
 use crate::kind::{Primitive, is_null, nullable, primitive_of};
 use datum_reading::{

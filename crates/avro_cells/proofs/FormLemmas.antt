@@ -19,12 +19,12 @@ use Rattle.datum_reading.specs.declared.refusal.DatumRefusal.{DatumRefusal}
 use Rattle.datum_reading.specs.Reading.{flag_at, number_from, num_at, choice_at, within, branch_at, datum_at}
 use Rattle.datum_reading.specs.Layers.{reads-Null, reads-Boolean, reads-Int, reads-Long, reads-Raw, reads-Str}
 use Rattle.datum_reading.specs.Layers.{reads-Union}
-use Rattle.cell_reading.specs.declared.form.Form.{Form}
-use Rattle.cell_reading.specs.declared.kind.Primitive.{Primitive}
-use Rattle.cell_reading.specs.Kind.{Level, nullable_level, of_branches, beside_null, is_null, primitive_of}
-use Rattle.cell_reading.specs.Value.{cell_of, cell_of_level, plain_cell}
-use Rattle.cell_reading.specs.Form.{form_with, form_as, form_of, as_cell, cell_read, primitive_at, beside_null_at}
-use Rattle.cell_reading.specs.Form.{form_at}
+use Rattle.avro_cells.specs.declared.form.Form.{Form}
+use Rattle.avro_cells.specs.declared.kind.Primitive.{Primitive}
+use Rattle.avro_cells.specs.Kind.{Level, nullable_level, of_branches, beside_null, is_null, primitive_of}
+use Rattle.avro_cells.specs.Value.{cell_of, cell_of_level, plain_cell}
+use Rattle.avro_cells.specs.Form.{form_with, form_as, form_of, as_cell, cell_read, primitive_at, beside_null_at}
+use Rattle.avro_cells.specs.Form.{form_at}
 
 -- ---- cells of values
 
