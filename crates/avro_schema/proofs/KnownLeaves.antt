@@ -1,14 +1,18 @@
 -- The kinds of schemas without a name, and without another schema in them.
-use Rattle.std.proofs.Common.{◌≡◌, true, false, codes, refl, arith, Bool, List, ℕ}
-use Rattle.std.proofs.lemmas.Bool.{false≢true}
+use Rattle.std.proofs.Common.{◌≡◌, ℕ, suc, Bool, true, List, [], Option, Some, None, Ok, codes, refl, ap, ◌∙◌, arith}
 use Rattle.json.specs.Json as json
 use Rattle.serde_json.specs.Data.{string, boolean, object, Members, no_members, put}
 use Rattle.schema_tree.specs.declared.schema.Schema.TheVariants as schemas
-use Rattle.schema_tree.specs.declared.schema.Logical.{Logical}
-use Rattle.schema_tree.specs.declared.schema.Logical.TheVariants.{Plain, Date, TimeMicros, StampMicros, StampMicrosUtc}
+use Rattle.schema_tree.specs.declared.logical.Logical.{Logical}
+use Rattle.schema_tree.specs.Logical.{Attributes, is_of_int, is_of_long, int_attributes, long_attributes}
+use Rattle.schema_tree.specs.Logical.{of_int, of_long, is_utc, int_with, long_with}
+use Rattle.schema_tree.specs.LogicalLaws.{int_again, long_again}
+use Rattle.schema_tree.specs.declared.schema.Schema.{Schema}
 use Rattle.schema_tree.specs.declared.schema.Schema.TheOpen as open_schema
-use Rattle.avro_schema.specs.Printing.{written_of, written_field}
-use Rattle.avro_schema.specs.Printable.{spelled_of, spelled_field}
+use Rattle.avro_schema.specs.Defined.{Seen}
+use Rattle.avro_schema.specs.Reading.{counted, schema_at}
+use Rattle.avro_schema.specs.Printing.{other, number_tokens, written_of, written_field}
+use Rattle.avro_schema.specs.Printable.{primitive, number_levels, spelled_of, spelled_field}
 use Rattle.schema_tree.specs.Tree.{depth_of, size_of, number_of_field}
 use Rattle.schema_tree.specs.Ids.{ids_of, ids_of_field}
 use Rattle.schema_tree.specs.Equations.{fold_null, fold_boolean, fold_int, fold_long, fold_float, fold_double}
@@ -55,50 +59,63 @@ str_known =
 
 -- ---- ints and longs
 
--- an object of a type, and what it stands for
-abbrev logical_json : List ℕ → List ℕ → json.Members → json.Json
-logical_json kind logical rest = json.object (json.member (codes "type") (json.string kind) (json.member (codes "logicalType") (json.string logical) rest))
+-- whether a moment is in UTC, behind other members
+abbrev utc_json : Option Bool → json.Members
+utc_json None = json.no_members
+utc_json (Some utc) = json.member (codes "adjust-to-utc") (json.boolean utc) json.no_members
 
-abbrev logical_members : List ℕ → List ℕ → Members
-logical_members kind logical = put (codes "logicalType") (string logical) (put (codes "type") (string kind) no_members)
+abbrev utc_put : Option Bool → Members → Members
+utc_put None found = found
+utc_put (Some utc) found = put (codes "adjust-to-utc") (boolean utc) found
 
-int_cases : (logical : Logical) → (spelled_of (open_schema.Int logical)).right ≡ true → Known (schemas.Int logical) (written_of (open_schema.Int logical)) (spelled_of (open_schema.Int logical)) 1 1
-int_cases Plain right = word_known (schemas.Int Plain) _ _ (codes "int") refl refl
-int_cases Date right =
-    leaf (schemas.Int Date) _ _ (logical_json (codes "int") (codes "date") json.no_members) (object (logical_members (codes "int") (codes "date"))) refl (tt, (tt, tt)) (omega arith) refl (λ schema_in seen. refl)
-    (λ room seen after counted_is. typed room seen after (logical_members (codes "int") (codes "date")) (codes "int") counted_is refl)
-int_cases TimeMicros right = absurd (false≢true right)
-int_cases StampMicros right = absurd (false≢true right)
-int_cases StampMicrosUtc right = absurd (false≢true right)
+-- a number's object, with the attributes that say what it stands for
+abbrev number_json : List ℕ → List ℕ → Option Bool → json.Json
+number_json kind logical_type utc = json.object (json.member (codes "type") (json.string kind) (json.member (codes "logicalType") (json.string logical_type) (utc_json utc)))
+
+abbrev number_members : List ℕ → List ℕ → Option Bool → Members
+number_members kind logical_type utc = utc_put utc (put (codes "logicalType") (string logical_type) (put (codes "type") (string kind) no_members))
+
+-- an object of a number is known, where it is read as the schema
+number_object : (schema : Schema) (right : Bool) (kind logical_type : List ℕ) (utc : Option Bool)
+    → ((room : ℕ) (seen after : Seen) → counted (suc room) 1 1 seen ≡ Ok after → schema_at (suc room) [] seen (object (number_members kind logical_type utc)) ≡ Ok (schema, after))
+    → Known schema (other (number_tokens kind (Some (record { logical_type = logical_type; adjust_to_utc = utc })))) (primitive right 1) 1 1
+number_object schema right kind logical_type None step =
+    leaf schema _ _ (number_json kind logical_type None) (object (number_members kind logical_type None)) refl (tt, (tt, tt)) (omega arith) refl (λ schema_in seen. refl) step
+number_object schema right kind logical_type (Some utc) step =
+    leaf schema _ _ (number_json kind logical_type (Some utc)) (object (number_members kind logical_type (Some utc))) refl (tt, (tt, (tt, tt))) (omega arith) refl (λ schema_in seen. refl) step
+
+-- an int of these attributes, which are read as what it stands for
+int_cases : (logical : Logical) (right : Bool) (attributes : Option Attributes) → int_with attributes ≡ logical → Known (schemas.Int logical) (other (number_tokens (codes "int") attributes)) (primitive right (number_levels attributes)) 1 1
+int_cases logical right None again = word_known (schemas.Int logical) _ _ (codes "int") refl (ap (λ logical. Some (schemas.Int logical)) again)
+int_cases logical right (Some attributes) again = number_object (schemas.Int logical) right (codes "int") attributes.logical_type attributes.adjust_to_utc (read attributes.logical_type attributes.adjust_to_utc again)
+  where
+    read : (logical_type : List ℕ) (utc : Option Bool) → of_int logical_type ≡ logical → (room : ℕ) (seen after : Seen) → counted (suc room) 1 1 seen ≡ Ok after
+        → schema_at (suc room) [] seen (object (number_members (codes "int") logical_type utc)) ≡ Ok (schemas.Int logical, after)
+    read logical_type None again room seen after counted_is =
+        typed room seen after (number_members (codes "int") logical_type None) (codes "int") counted_is refl ∙ ap (λ logical. Ok (schemas.Int logical, after)) again
+    read logical_type (Some utc) again room seen after counted_is =
+        typed room seen after (number_members (codes "int") logical_type (Some utc)) (codes "int") counted_is refl ∙ ap (λ logical. Ok (schemas.Int logical, after)) again
 
 pub int_known : (logical : Logical) → IsKnown (schemas.Int logical)
 int_known logical =
     known_by (schemas.Int logical) (written_of (open_schema.Int logical)) (spelled_of (open_schema.Int logical)) 1 1 true
     (fold_int written_of written_field logical) (fold_int spelled_of spelled_field logical) (fold_int depth_of number_of_field logical) (fold_int size_of number_of_field logical) (fold_int ids_of ids_of_field logical)
-    (λ right fits. int_cases logical right)
+    (λ right fits. int_cases logical (is_of_int logical) (int_attributes logical) (int_again logical right))
 
--- a moment's text
-abbrev moment_json : Bool → json.Json
-moment_json utc = logical_json (codes "long") (codes "timestamp-micros") (json.member (codes "adjust-to-utc") (json.boolean utc) json.no_members)
-
-abbrev moment_members : Bool → Members
-moment_members utc = put (codes "adjust-to-utc") (boolean utc) (logical_members (codes "long") (codes "timestamp-micros"))
-
-long_cases : (logical : Logical) → (spelled_of (open_schema.Long logical)).right ≡ true → Known (schemas.Long logical) (written_of (open_schema.Long logical)) (spelled_of (open_schema.Long logical)) 1 1
-long_cases Plain right = word_known (schemas.Long Plain) _ _ (codes "long") refl refl
-long_cases Date right = absurd (false≢true right)
-long_cases TimeMicros right =
-    leaf (schemas.Long TimeMicros) _ _ (logical_json (codes "long") (codes "time-micros") json.no_members) (object (logical_members (codes "long") (codes "time-micros"))) refl (tt, (tt, tt)) (omega arith) refl (λ schema_in seen. refl)
-    (λ room seen after counted_is. typed room seen after (logical_members (codes "long") (codes "time-micros")) (codes "long") counted_is refl)
-long_cases StampMicros right =
-    leaf (schemas.Long StampMicros) _ _ (moment_json false) (object (moment_members false)) refl (tt, (tt, (tt, tt))) (omega arith) refl (λ schema_in seen. refl)
-    (λ room seen after counted_is. typed room seen after (moment_members false) (codes "long") counted_is refl)
-long_cases StampMicrosUtc right =
-    leaf (schemas.Long StampMicrosUtc) _ _ (moment_json true) (object (moment_members true)) refl (tt, (tt, (tt, tt))) (omega arith) refl (λ schema_in seen. refl)
-    (λ room seen after counted_is. typed room seen after (moment_members true) (codes "long") counted_is refl)
+-- and a long
+long_cases : (logical : Logical) (right : Bool) (attributes : Option Attributes) → long_with attributes ≡ logical → Known (schemas.Long logical) (other (number_tokens (codes "long") attributes)) (primitive right (number_levels attributes)) 1 1
+long_cases logical right None again = word_known (schemas.Long logical) _ _ (codes "long") refl (ap (λ logical. Some (schemas.Long logical)) again)
+long_cases logical right (Some attributes) again = number_object (schemas.Long logical) right (codes "long") attributes.logical_type attributes.adjust_to_utc (read attributes.logical_type attributes.adjust_to_utc again)
+  where
+    read : (logical_type : List ℕ) (utc : Option Bool) → of_long logical_type (is_utc utc) ≡ logical → (room : ℕ) (seen after : Seen) → counted (suc room) 1 1 seen ≡ Ok after
+        → schema_at (suc room) [] seen (object (number_members (codes "long") logical_type utc)) ≡ Ok (schemas.Long logical, after)
+    read logical_type None again room seen after counted_is =
+        typed room seen after (number_members (codes "long") logical_type None) (codes "long") counted_is refl ∙ ap (λ logical. Ok (schemas.Long logical, after)) again
+    read logical_type (Some utc) again room seen after counted_is =
+        typed room seen after (number_members (codes "long") logical_type (Some utc)) (codes "long") counted_is refl ∙ ap (λ logical. Ok (schemas.Long logical, after)) again
 
 pub long_known : (logical : Logical) → IsKnown (schemas.Long logical)
 long_known logical =
     known_by (schemas.Long logical) (written_of (open_schema.Long logical)) (spelled_of (open_schema.Long logical)) 1 1 true
     (fold_long written_of written_field logical) (fold_long spelled_of spelled_field logical) (fold_long depth_of number_of_field logical) (fold_long size_of number_of_field logical) (fold_long ids_of ids_of_field logical)
-    (λ right fits. long_cases logical right)
+    (λ right fits. long_cases logical (is_of_long logical) (long_attributes logical) (long_again logical right))

@@ -2,7 +2,7 @@
 use Rattle.std.proofs.Common.{◌≡◌, ℕ, Bool, true, false, if◌then◌else◌, List, codes, Option, Some, None, subst}
 use Rattle.std.specs.Str.{bytes_eq}
 use Rattle.serde_json.specs.Data.{Members}
-use Rattle.schema_tree.specs.declared.schema.Logical.TheVariants.{Plain}
+use Rattle.schema_tree.specs.declared.logical.Logical.TheVariants.{Plain}
 use Rattle.schema_tree.specs.declared.schema.Schema.{Schema}
 use Rattle.schema_tree.specs.declared.schema.Schema.TheVariants as schemas
 use Rattle.schema_tree.specs.TreeLaws.{IsAlone, alone-Null, alone-Boolean, alone-Int, alone-Long, alone-Float}

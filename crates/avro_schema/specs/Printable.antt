@@ -1,13 +1,14 @@
 -- The schemas whose text is read as the schema again: a text can spell them, with plain names, each defined once.
 use Rattle.std.specs.Prelude.{◌≡◌, ℕ, suc, ◌≤◌, ◌==◌, ◌&&◌, ◌||◌, Bool, true, false, not, List, [], ◌∷◌, nat_le}
+use Rattle.std.specs.Prelude.{Option, Some, None}
 use Rattle.std.specs.List.{list_all, list_any, flat_map}
 use Rattle.std.specs.Str.{bytes_eq}
 use Rattle.schema_tree.specs.declared.schema.Schema.{Schema}
 use Rattle.schema_tree.specs.declared.schema.Schema.TheOpen.{Schema-F, Field-F, Null, Boolean, Int, Long, Float}
 use Rattle.schema_tree.specs.declared.schema.Schema.TheOpen.{Double, Raw, Str, Fixed, Enum, Rec, Array, Map, Union}
 use Rattle.schema_tree.specs.declared.schema.Schema.TheFolds.{fold-Schema}
-use Rattle.schema_tree.specs.declared.schema.Logical.{Logical}
-use Rattle.schema_tree.specs.declared.schema.Logical.TheVariants.{Plain, Date, TimeMicros, StampMicros, StampMicrosUtc}
+use Rattle.schema_tree.specs.declared.logical.Logical.{Logical}
+use Rattle.schema_tree.specs.Logical.{Attributes, is_of_int, is_of_long, int_attributes, long_attributes}
 use Rattle.schema_tree.specs.Tree.{depth, size, largest}
 
 -- ---- names. Avro 1.11, "Names"
@@ -49,20 +50,17 @@ pub record SpelledField : Type 0 where
 abbrev pub primitive : Bool → ℕ → Spelled
 primitive right levels = record { right = right; is_union = false; levels = levels; names = [] }
 
--- what an int or a long may stand for, and how deep its text nests
+-- how deep the text of a number nests: a word doesn't, and an object does once
+abbrev pub number_levels : Option Attributes → ℕ
+number_levels None = 0
+number_levels (Some attributes) = 1
+
+-- an int, and a long, of what it may stand for
 abbrev pub int_spelled : Logical → Spelled
-int_spelled Plain = primitive true 0
-int_spelled Date = primitive true 1
-int_spelled TimeMicros = primitive false 0
-int_spelled StampMicros = primitive false 0
-int_spelled StampMicrosUtc = primitive false 0
+int_spelled logical = primitive (is_of_int logical) (number_levels (int_attributes logical))
 
 abbrev pub long_spelled : Logical → Spelled
-long_spelled Plain = primitive true 0
-long_spelled Date = primitive false 0
-long_spelled TimeMicros = primitive true 1
-long_spelled StampMicros = primitive true 1
-long_spelled StampMicrosUtc = primitive true 1
+long_spelled logical = primitive (is_of_long logical) (number_levels (long_attributes logical))
 
 -- there is one at least
 abbrev pub is_some_list : {A : Type 0} → List A → Bool

@@ -9,8 +9,8 @@ use Rattle.schema_tree.specs.declared.schema.Schema.{Schema}
 use Rattle.schema_tree.specs.declared.schema.Schema.TheOpen.{Schema-F, Field-F, Null, Boolean, Int, Long, Float}
 use Rattle.schema_tree.specs.declared.schema.Schema.TheOpen.{Double, Raw, Str, Fixed, Enum, Rec, Array, Map, Union}
 use Rattle.schema_tree.specs.declared.schema.Schema.TheFolds.{fold-Schema}
-use Rattle.schema_tree.specs.declared.schema.Logical.{Logical}
-use Rattle.schema_tree.specs.declared.schema.Logical.TheVariants.{Plain, Date, TimeMicros, StampMicros, StampMicrosUtc}
+use Rattle.schema_tree.specs.declared.logical.Logical.{Logical}
+use Rattle.schema_tree.specs.Logical.{Attributes, int_attributes, long_attributes}
 
 -- a schema as it is written, and whether it is the null type, or a union that begins with it
 pub record Written : Type 0 where
@@ -59,23 +59,24 @@ word name = string name ∷ []
 abbrev pub logical_type : List ℕ → List ℕ → List Token
 logical_type name logical = text_member (codes "type") name ++ text_member (codes "logicalType") logical
 
+-- whether a moment is in UTC, which may be left out
+abbrev pub utc_member : Option Bool → List Token
+utc_member None = []
+utc_member (Some utc) = flag_member (codes "adjust-to-utc") utc
+
+-- a number: a word alone, or an object with the attributes that say what it stands for
+abbrev pub number_tokens : List ℕ → Option Attributes → List Token
+number_tokens name None = word name
+number_tokens name (Some attributes) =
+    object_of (logical_type name attributes.logical_type ++ utc_member attributes.adjust_to_utc)
+
 -- an int
 abbrev pub int_tokens : Logical → List Token
-int_tokens Plain = word (codes "int")
-int_tokens Date = object_of (logical_type (codes "int") (codes "date"))
-int_tokens TimeMicros = word (codes "int")
-int_tokens StampMicros = word (codes "int")
-int_tokens StampMicrosUtc = word (codes "int")
+int_tokens logical = number_tokens (codes "int") (int_attributes logical)
 
 -- a long
 abbrev pub long_tokens : Logical → List Token
-long_tokens Plain = word (codes "long")
-long_tokens Date = word (codes "long")
-long_tokens TimeMicros = object_of (logical_type (codes "long") (codes "time-micros"))
-long_tokens StampMicros =
-    object_of (logical_type (codes "long") (codes "timestamp-micros") ++ flag_member (codes "adjust-to-utc") false)
-long_tokens StampMicrosUtc =
-    object_of (logical_type (codes "long") (codes "timestamp-micros") ++ flag_member (codes "adjust-to-utc") true)
+long_tokens logical = number_tokens (codes "long") (long_attributes logical)
 
 -- the mark of an array that stands for a map
 abbrev pub keyed_member : Bool → List Token

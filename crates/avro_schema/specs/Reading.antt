@@ -1,7 +1,7 @@
 -- Which schema a JSON value is, or the first place from the top that is none.
 -- Avro 1.11, "Schema Declaration", "Names"; Iceberg spec, "Appendix A: Avro" for the ids.
-use Rattle.std.specs.Prelude.{ℕ, zero, suc, ◌+◌, Bool, true, false, ◌||◌, List, [], ◌∷◌, ◌++◌, Option, Some, None}
-use Rattle.std.specs.Prelude.{Result, Ok, Err, nat_lt, codes, if◌then◌else◌}
+use Rattle.std.specs.Prelude.{ℕ, zero, suc, ◌+◌, Bool, ◌||◌, List, [], ◌∷◌, ◌++◌, Option, Some, None}
+use Rattle.std.specs.Prelude.{Result, Ok, Err, nat_lt, codes, if◌then◌else◌, option_and_then}
 use Rattle.std.specs.Fmt.{decimal}
 use Rattle.std.specs.List.{list_any}
 use Rattle.std.specs.Str.{bytes_eq}
@@ -12,8 +12,9 @@ use Rattle.json_members.specs.Parsing.{value_of}
 use Rattle.schema_tree.specs.declared.schema.Schema.{Schema}
 use Rattle.schema_tree.specs.declared.schema.Schema.TheVariants as schemas
 use Rattle.schema_tree.specs.declared.schema.Field.{Field, out-Field, roll-Field}
-use Rattle.schema_tree.specs.declared.schema.Logical.{Logical}
-use Rattle.schema_tree.specs.declared.schema.Logical.TheVariants.{Plain, Date, TimeMicros, StampMicros, StampMicrosUtc}
+use Rattle.schema_tree.specs.declared.logical.Logical.{Logical}
+use Rattle.schema_tree.specs.declared.logical.Logical.TheVariants.{Plain}
+use Rattle.schema_tree.specs.Logical.{of_int, of_long}
 use Rattle.avro_schema.specs.declared.refusal.SchemaRefusal.{SchemaRefusal}
 use Rattle.avro_schema.specs.declared.refusal.SchemaRefusal.TheVariants.{NotJson, Form, Unknown, Nesting}
 use Rattle.avro_schema.specs.Refusal.{under}
@@ -38,22 +39,24 @@ primitive_of word =
     else (if bytes_eq word (codes "string") then Some schemas.Str
     else None)))))))
 
+-- what a number stands for, by its logical type; it is a number alone where there is none
+abbrev pub stands_for : (List ℕ → Logical) → Option (List ℕ) → Logical
+stands_for meaning None = Plain
+stands_for meaning (Some logical_type) = meaning logical_type
+
+-- the logical type of an object, where it is a text
+abbrev pub logical_type_of : Members → Option (List ℕ)
+logical_type_of members = option_and_then text_of (get_member (codes "logicalType") members)
+
 -- what an int stands for
 abbrev pub logical_int : Members → Logical
-logical_int members = if is_text (get_member (codes "logicalType") members) (codes "date") then Date else Plain
-
--- a moment, in UTC or not
-abbrev pub moment : Bool → Logical
-moment true = StampMicrosUtc
-moment false = StampMicros
+logical_int members = stands_for of_int (logical_type_of members)
 
 -- what a long stands for
 abbrev pub logical_long : Members → Logical
 logical_long members =
-    if is_text (get_member (codes "logicalType") members) (codes "time-micros") then TimeMicros
-    else (if is_text (get_member (codes "logicalType") members) (codes "timestamp-micros")
-    then moment (is_true (get_member (codes "adjust-to-utc") members))
-    else Plain)
+    stands_for (λ logical_type. of_long logical_type (is_true (get_member (codes "adjust-to-utc") members)))
+    (logical_type_of members)
 
 -- the type that the word names, with what the other members say of it
 abbrev pub logical_of : List ℕ → Members → Schema → Schema

@@ -28,7 +28,7 @@ pub fn needed<'v>(
 }
 
 /// The text of a member. `None`: there is no such member, or it is no text.
-fn text_of<'v>(members: &'v Members, key: &str) -> Option<&'v str>
+pub fn text_of<'v>(members: &'v Members, key: &str) -> Option<&'v str>
     ensures { option_map (λ text. text.now) result
         ≡ option_and_then spec.text_of (get_member key.now (members_view members.now.entries)) }
 {

@@ -4,7 +4,7 @@ ghost use Rattle.std.specs.Prelude.{◌≡◌};
 ghost use Rattle.serde_json.specs.View.{members_view};
 ghost use Rattle.avro_schema.specs.Reading as spec;
 
-use crate::member::{is_text, is_true};
+use crate::member::{is_true, text_of};
 use json_members::Members;
 use schema_tree::{Logical, Schema};
 
@@ -25,35 +25,23 @@ pub fn primitive_of(word: &str) -> Option<Schema>
     }
 }
 
+/// What an int with these members stands for.
 fn logical_int(members: &Members) -> Logical
     ensures { result ≡ spec.logical_int (members_view members.now.entries) }
 {
-    if is_text(members, "logicalType", "date") {
-        Logical::Date
-    } else {
-        Logical::Plain
+    match text_of(members, "logicalType") {
+        Some(logical_type) => Logical::of_int(logical_type),
+        None => Logical::Plain,
     }
 }
 
-fn moment(utc: bool) -> Logical
-    ensures { result ≡ spec.moment utc }
-{
-    if utc {
-        Logical::StampMicrosUtc
-    } else {
-        Logical::StampMicros
-    }
-}
-
+/// What a long with these members stands for. `adjust-to-utc` counts only if it is true.
 fn logical_long(members: &Members) -> Logical
     ensures { result ≡ spec.logical_long (members_view members.now.entries) }
 {
-    if is_text(members, "logicalType", "time-micros") {
-        Logical::TimeMicros
-    } else if is_text(members, "logicalType", "timestamp-micros") {
-        moment(is_true(members, "adjust-to-utc"))
-    } else {
-        Logical::Plain
+    match text_of(members, "logicalType") {
+        Some(logical_type) => Logical::of_long(logical_type, is_true(members, "adjust-to-utc")),
+        None => Logical::Plain,
     }
 }
 

@@ -1,17 +1,18 @@
 //! The text of a schema: its JSON tokens, without a space between them.
 
-ghost use Rattle.std.specs.Prelude.{◌≡◌, ◌++◌, ◌∷◌, [], true, codes, map, Ok, IfOk, OnOk};
+ghost use Rattle.std.specs.Prelude.{◌≡◌, ◌++◌, ◌∷◌, [], true, codes, map, option_map, Ok, IfOk, OnOk};
 ghost use Rattle.json.specs.Token.{begin_object, key};
 ghost use Rattle.schema_tree.specs.declared.schema.Schema.TheVariants.{Fixed, Enum, Rec, Array, Map};
-ghost use Rattle.avro_schema.specs.Reading.{moment, schema_of};
+ghost use Rattle.avro_schema.specs.Reading.{schema_of};
 ghost use Rattle.avro_schema.specs.Printable.{IsPrintable};
-ghost use Rattle.avro_schema.specs.Printing.{schema_text, written, text_member, id_member, default_member, keyed_member, list_of, texts_of, logical_type, int_tokens, long_tokens};
+ghost use Rattle.avro_schema.specs.Printing.{schema_text, written, text_member, id_member, default_member, keyed_member, utc_member, object_of, list_of, texts_of, logical_type, number_tokens, int_tokens, long_tokens};
+ghost use Rattle.schema_tree.specs.Logical.{attributes_of};
 ghost use Rattle.schema_tree.specs.Ids.{is_id, all_true, has_ids, field_has_ids};
 ghost use Rattle.avro_schema.specs.Putting.{Puts, field_written, fields_tokens, branches_tokens};
 
 use avro_wire::Text;
 use json::Writer;
-use schema_tree::{Branches, Field, Fields, Logical, Names, Schema};
+use schema_tree::{Attributes, Branches, Field, Fields, Logical, Names, Schema};
 use std::alloc::{AllocError, Global};
 
 /// The text of the schema, without spaces. An `Err` says that memory ran out.
@@ -207,35 +208,47 @@ fn is_null(schema: &Schema) -> bool
 fn put_int(out: &mut Writer, logical: Logical) -> Result<(), AllocError>
     ensures { Puts result out.old out.new (int_tokens logical) }
 {
-    match logical {
-        Logical::Date => {
-            begin_logical(out, "int", "date")?;
-            out.end_object()
-        }
-        _ => out.string("int"),
-    }
+    put_number(out, "int", logical.int_attributes())
 }
 
 fn put_long(out: &mut Writer, logical: Logical) -> Result<(), AllocError>
     ensures { Puts result out.old out.new (long_tokens logical) }
 {
-    match logical {
-        Logical::TimeMicros => {
-            begin_logical(out, "long", "time-micros")?;
-            out.end_object()
-        }
-        Logical::StampMicros => put_stamp(out, false),
-        Logical::StampMicrosUtc => put_stamp(out, true),
-        _ => out.string("long"),
+    put_number(out, "long", logical.long_attributes())
+}
+
+/// An int or a long: a word alone, or an object with the attributes.
+fn put_number(
+    out: &mut Writer,
+    kind: &str,
+    attributes: Option<Attributes>,
+) -> Result<(), AllocError>
+    ensures { Puts result out.old out.new
+        (number_tokens kind.now (option_map attributes_of attributes)) }
+{
+    match attributes {
+        None => out.string(kind),
+        Some(attributes) => put_logical(
+            out,
+            kind,
+            attributes.logical_type,
+            attributes.adjust_to_utc,
+        ),
     }
 }
 
-fn put_stamp(out: &mut Writer, utc: bool) -> Result<(), AllocError>
-    ensures { Puts result out.old out.new (long_tokens (moment utc)) }
+/// The object of a number that stands for something.
+fn put_logical(
+    out: &mut Writer,
+    kind: &str,
+    logical: &str,
+    utc: Option<bool>,
+) -> Result<(), AllocError>
+    ensures { Puts result out.old out.new
+        (object_of (logical_type kind.now logical.now ++ utc_member utc)) }
 {
-    begin_logical(out, "long", "timestamp-micros")?;
-    out.key("adjust-to-utc")?;
-    out.boolean(utc)?;
+    begin_logical(out, kind, logical)?;
+    put_utc(out, utc)?;
     out.end_object()
 }
 
@@ -331,6 +344,18 @@ fn put_keyed(out: &mut Writer, keyed: bool) -> Result<(), AllocError>
         return put_text(out, "logicalType", "map");
     }
     Ok(())
+}
+
+fn put_utc(out: &mut Writer, utc: Option<bool>) -> Result<(), AllocError>
+    ensures { Puts result out.old out.new (utc_member utc) }
+{
+    match utc {
+        None => Ok(()),
+        Some(utc) => {
+            out.key("adjust-to-utc")?;
+            out.boolean(utc)
+        }
+    }
 }
 
 fn put_default(out: &mut Writer, null: bool) -> Result<(), AllocError>

@@ -4,7 +4,7 @@ use Rattle.std.specs.Prelude.{ℤ, pos}
 use Rattle.std.proofs.lemmas.List.{length-map}
 use Rattle.words.specs.Reading.{◌>>=◌, map_value}
 use Rattle.avro_wire.specs.Number.{long, int}
-use Rattle.schema_tree.specs.declared.schema.Logical.{Logical}
+use Rattle.schema_tree.specs.declared.logical.Logical.{Logical}
 use Rattle.schema_tree.specs.declared.schema.Schema.{Schema}
 use Rattle.schema_tree.specs.declared.schema.Schema.TheOpen as kinds
 use Rattle.schema_tree.specs.declared.schema.Schema.TheVariants as schemas

@@ -10,7 +10,7 @@ use Rattle.avro_wire.specs.Number.{long, int, SpellsNumber}
 use Rattle.avro_wire.specs.Writing.{number_text, bytes_text, list_text}
 use Rattle.avro_wire.specs.WritingLaws.{long_spelled as long_number_spelled, int_spelled as int_number_spelled}
 use Rattle.avro_wire.specs.WritingLaws.{bytes_spelled, list_spelled}
-use Rattle.schema_tree.specs.declared.schema.Logical.{Logical}
+use Rattle.schema_tree.specs.declared.logical.Logical.{Logical}
 use Rattle.schema_tree.specs.declared.schema.Schema.{Schema, roll-Schema}
 use Rattle.schema_tree.specs.declared.schema.Field.{Field}
 use Rattle.schema_tree.specs.declared.schema.Schema.TheOpen as layers

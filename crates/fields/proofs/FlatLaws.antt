@@ -16,8 +16,8 @@ use Rattle.datum_reading.specs.declared.refusal.DatumRefusal.{DatumRefusal}
 use Rattle.datum_reading.specs.Reading.{Reader, fields_at, datum_at}
 use Rattle.datum_reading.specs.Readers.{readers_of}
 use Rattle.datum_reading.specs.Layers.{reads-Rec}
-use Rattle.cell_reading.specs.Kind.{Level}
-use Rattle.cell_reading.specs.Value.{values_of_level}
+use Rattle.avro_cells.specs.Kind.{Level}
+use Rattle.avro_cells.specs.Value.{values_of_level}
 use Rattle.fields.specs.declared.leaf.Leaf.{Leaf}
 use Rattle.fields.specs.Flat.{inner_leaf, leaves_of_level, leaves_of_field, leaves_if, leaves, flat_of_level, flat_if}
 use Rattle.fields.specs.Flat.{flat_values, Opens}

@@ -22,8 +22,8 @@ use Rattle.datum_reading.specs.declared.refusal.DatumRefusal.{DatumRefusal}
 use Rattle.datum_reading.specs.Reading.{raw_at, moved, fields_at, datum_at}
 use Rattle.datum_reading.specs.Layers.{reads-Null, reads-Fixed, reads-Rec}
 use Rattle.datum_reading.specs.Readers.{readers_of}
-use Rattle.cell_reading.specs.Kind.{Level, nullable_level}
-use Rattle.cell_reading.specs.Form.{form_as, form_of}
+use Rattle.avro_cells.specs.Kind.{Level, nullable_level}
+use Rattle.avro_cells.specs.Form.{form_as, form_of}
 use Rattle.fields.specs.declared.leaf.Leaf.{Leaf}
 use Rattle.fields.specs.Flat.{leaf_readers}
 use Rattle.fields.specs.Kept.{empty_of, empty_field, is_empty, are_empty, is_bare, kept, kept_values}

@@ -25,9 +25,9 @@ use Rattle.datum_reading.specs.Readers.{passed}
 use Rattle.fields.specs.declared.wanted.Wanted.{Wanted}
 use Rattle.fields.specs.declared.refusal.FieldRefusal.{FieldRefusal}
 use Rattle.fields.specs.declared.refusal.FieldRefusal.TheVariants.{MissingField}
-use Rattle.cell_reading.specs.declared.form.Form.{Form}
-use Rattle.cell_reading.specs.Kind.{Level}
-use Rattle.cell_reading.specs.Form.{form_of}
+use Rattle.avro_cells.specs.declared.form.Form.{Form}
+use Rattle.avro_cells.specs.Kind.{Level}
+use Rattle.avro_cells.specs.Form.{form_of}
 use Rattle.fields.specs.declared.leaf.Leaf.{Leaf}
 use Rattle.fields.specs.Flat.{Opens, leaves, leaf_readers}
 use Rattle.fields.specs.Kept.{kept, kept_values}

@@ -19,20 +19,20 @@ use Rattle.datum_reading.specs.declared.refusal.DatumRefusal.{DatumRefusal}
 use Rattle.datum_reading.specs.Reading.{fields_at, datum_at}
 use Rattle.datum_reading.specs.Readers.{readers_of, passed}
 use Rattle.datum_reading.specs.Layers.{reads-Rec}
-use Rattle.cell_reading.specs.declared.form.Form.{Form}
-use Rattle.cell_reading.specs.declared.kind.Primitive.{Primitive}
+use Rattle.avro_cells.specs.declared.form.Form.{Form}
+use Rattle.avro_cells.specs.declared.kind.Primitive.{Primitive}
 use Rattle.fields.specs.declared.wanted.Wanted.{Wanted}
-use Rattle.cell_reading.specs.Kind.{Level, Nullable, nullable, primitive_of, holds_as, is_allowed_as, is_allowed}
+use Rattle.avro_cells.specs.Kind.{Level, Nullable, nullable, primitive_of, holds_as, is_allowed_as, is_allowed}
 use Rattle.row_types.specs.declared.cell_ref.CellRef.{CellRef}
 use Rattle.row_types.specs.CellRef.{lent_cell}
-use Rattle.cell_reading.specs.Form.{null_branch, form_with, form_as, form_of}
+use Rattle.avro_cells.specs.Form.{null_branch, form_with, form_as, form_of}
 use Rattle.fields.specs.declared.refusal.FieldRefusal.{FieldRefusal}
 use Rattle.fields.specs.declared.leaf.Leaf.{Leaf}
 use Rattle.fields.specs.Flat.{Opens, leaves, flat_values, leaf_readers}
 use Rattle.fields.specs.Kept.{kept, kept_values, slots, slot_at}
 use Rattle.fields.proofs.FlatLaws.{all_flat, leaves_read}
 use Rattle.fields.proofs.KeptLaws.{some_is, leaf_takes, kept_of, is_kept, slot_is, kept_read}
-use Rattle.cell_reading.specs.Value.{cell_of, values_of_level, values_of}
+use Rattle.avro_cells.specs.Value.{cell_of, values_of_level, values_of}
 use Rattle.fields.specs.Wanted.{fields_of_level, fields_of, opens, check_nulls, Found, is_this, find_from, find}
 use Rattle.fields.specs.Wanted.{source_as}
 use Rattle.fields.specs.Wanted.{source, cell_at, cells_with, is_none}

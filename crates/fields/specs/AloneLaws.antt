@@ -8,7 +8,7 @@ use Rattle.schema_tree.specs.declared.schema.Field.{Field, out-Field}
 use Rattle.datum_tree.specs.declared.datum.Datum.{Datum}
 use Rattle.fields.specs.declared.leaf.Leaf.{Leaf}
 use Rattle.fields.specs.declared.wanted.Wanted.{Wanted}
-use Rattle.cell_reading.specs.Value.{values_of}
+use Rattle.avro_cells.specs.Value.{values_of}
 use Rattle.fields.specs.Flat.{inner_leaf, leaves_if, leaves, flat_if, flat_values}
 use Rattle.fields.specs.Wanted.{is_id, has_inner, opens, fields_of, cells_with, wanted_of}
 

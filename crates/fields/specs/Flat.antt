@@ -8,8 +8,8 @@ use Rattle.datum_tree.specs.declared.datum.Datum.{Datum}
 use Rattle.datum_reading.specs.Reading.{Reader, datum_at}
 use Rattle.fields.specs.declared.leaf.Leaf.{Leaf}
 use Rattle.fields.specs.declared.leaf.LentLeaf.{LentLeaf}
-use Rattle.cell_reading.specs.Kind.{Level}
-use Rattle.cell_reading.specs.Value.{values_of}
+use Rattle.avro_cells.specs.Kind.{Level}
+use Rattle.avro_cells.specs.Value.{values_of}
 
 -- which records are opened, by the id of the field in which one stands
 abbrev pub Opens : Type 0

@@ -15,13 +15,13 @@ use Rattle.datum_reading.specs.Reading.{datum_at}
 use Rattle.datum_tree.specs.Spelling.{IsEncoding}
 use Rattle.row_types.specs.declared.cell_ref.CellRef.{CellRef}
 use Rattle.fields.specs.declared.layout.Layout.{Layout}
-use Rattle.cell_reading.specs.declared.form.Form.{Form}
+use Rattle.avro_cells.specs.declared.form.Form.{Form}
 use Rattle.fields.specs.declared.wanted.Wanted.{Wanted}
 use Rattle.fields.specs.declared.refusal.FieldRefusal.{FieldRefusal}
 use Rattle.fields.specs.declared.refusal.FieldRefusal.TheVariants.{MissingField, NoValue, Memory}
-use Rattle.cell_reading.specs.Form.{form_of}
+use Rattle.avro_cells.specs.Form.{form_of}
 use Rattle.row_types.specs.CellRef.{is_null}
-use Rattle.cell_reading.specs.Value.{cell_of, values_of}
+use Rattle.avro_cells.specs.Value.{cell_of, values_of}
 use Rattle.fields.specs.declared.leaf.Leaf.{Leaf}
 use Rattle.fields.specs.Flat.{Opens, leaves, flat_values}
 use Rattle.fields.specs.Kept.{kept, kept_values, slots, slot_at}

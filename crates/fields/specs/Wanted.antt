@@ -14,11 +14,11 @@ use Rattle.datum_tree.specs.declared.datum.Datum.{Datum}
 use Rattle.fields.specs.declared.wanted.Wanted.{Wanted}
 use Rattle.fields.specs.declared.refusal.FieldRefusal.{FieldRefusal}
 use Rattle.fields.specs.declared.refusal.FieldRefusal.TheVariants.{MissingField}
-use Rattle.cell_reading.specs.Kind.{Level, is_allowed}
+use Rattle.avro_cells.specs.Kind.{Level, is_allowed}
 use Rattle.fields.specs.declared.leaf.Leaf.{Leaf}
 use Rattle.fields.specs.Flat.{leaves, flat_values}
 use Rattle.row_types.specs.CellRef.{is_null}
-use Rattle.cell_reading.specs.Value.{cell_of, values_of}
+use Rattle.avro_cells.specs.Value.{cell_of, values_of}
 
 -- the fields of a schema; one that is no record has none
 abbrev pub fields_of_level : Level → List Field

@@ -12,7 +12,7 @@ ghost use Rattle.fields.specs.Record.{is_memory, place_in, forms_of as forms_in,
 use crate::leaf::{Leaf, LentLeaf, kept_of, leaves_of, slots_of};
 use crate::refusal::FieldRefusal;
 use crate::wanted::{Wanted, check_missing, fields_of, source};
-use cell_reading::{Form, form_of};
+use avro_cells::{Form, form_of};
 use schema_tree::Schema;
 use std::alloc::{AllocError, Global};
 

@@ -4,7 +4,7 @@ ghost use Rattle.std.specs.Prelude.{◌≡◌, ◌≤◌, [], ◌∷◌, length,
 ghost use Rattle.words.specs.Reading.{Gives, never};
 ghost use Rattle.datum_reading.specs.Reading.{fields_at, datum_at};
 ghost use Rattle.fields.specs.Flat.{leaf_readers};
-ghost use Rattle.cell_reading.specs.Form.{form_of};
+ghost use Rattle.avro_cells.specs.Form.{form_of};
 ghost use Rattle.fields.specs.Wanted.{fields_of as fields_in, opens};
 ghost use Rattle.fields.specs.Nulls.{with_null, refused_at};
 ghost use Rattle.fields.specs.Record.{forms_of, field_as, fields_as, value_as, null_as};
@@ -15,7 +15,7 @@ use crate::leaf::Leaf;
 use crate::refusal::FieldRefusal;
 use crate::taking::{refusal_of, take_field};
 use crate::wanted::Wanted;
-use cell_reading::Form;
+use avro_cells::Form;
 use datum_reading::{Cursor, DatumRefusal, skip};
 use schema_tree::Schema;
 

@@ -7,7 +7,7 @@ ghost use Rattle.fields.specs.Wanted.{fields_of, is_id, has_inner, opens, is_thi
 
 use crate::leaf::LentLeaf;
 use crate::refusal::FieldRefusal;
-use cell_reading::is_allowed;
+use avro_cells::is_allowed;
 use row_types::Kind;
 use schema_tree::{Field, Schema};
 

@@ -1,7 +1,7 @@
 -- The columns that a file's own fields make can be read from them.
 use Rattle.std.proofs.Common.{◌≡◌, ℕ, ◌+◌, Bool, true, false, List, [], ◌∷◌, ◌++◌, append_assoc, append-nil, length}
 use Rattle.std.proofs.Common.{All, Some, None, Result, Ok, Err, refl, sym, ap, ◌∙◌, subst, inl, inr}
-use Rattle.std.specs.Prelude.{ℤ, int_lt, nat_lt, ◌||◌, not, Option, IfOk, IfSome}
+use Rattle.std.specs.Prelude.{ℤ, int_lt, nat_lt, ◌||◌, not, Option, IfOk}
 use Rattle.std.specs.Ordering.{int_eq}
 use Rattle.std.proofs.lemmas.Bool.{cases_Bool, false≢true, or_parts, false_from_ne_true}
 use Rattle.std.proofs.lemmas.Bool.Decides.{Decides-int_eq}
@@ -13,14 +13,12 @@ use Rattle.row_types.specs.declared.column.Column.{Column}
 use Rattle.row_types.specs.declared.column.Kind.{Kind}
 use Rattle.row_types.specs.Columns.{first_fault, has_id, has_wrong_id, has_wrong_name, most_columns}
 use Rattle.schema_tree.specs.declared.schema.Schema.{Schema, out-Schema}
-use Rattle.schema_tree.specs.declared.schema.Schema.TheOpen.{Boolean, Int, Long, Str, Raw}
-use Rattle.schema_tree.specs.declared.schema.Logical.{Logical}
-use Rattle.schema_tree.specs.declared.schema.Logical.TheVariants.{Date, TimeMicros, StampMicros, StampMicrosUtc}
 use Rattle.schema_tree.specs.declared.schema.Field.{Field, out-Field}
 use Rattle.avro_container.specs.declared.container.Container.{Container}
 use Rattle.words.specs.Steps.{bind_then, test_failed, ok_is}
 use Rattle.stored_rows.specs.declared.refusal.RowRefusal.{RowRefusal}
-use Rattle.cell_reading.specs.Kind.{Level, Nullable, nullable, holds, is_allowed, int_kind, long_kind, kind_of}
+use Rattle.avro_cells.specs.Kind.{Level, Nullable, nullable, holds, is_allowed, kind_of}
+use Rattle.avro_cells.specs.KindLaws.{kind_holds}
 use Rattle.fields.specs.Wanted.{fields_of}
 use Rattle.stored_rows.specs.Field.{is_this, find_from, find}
 use Rattle.row_reading.specs.File.{Opened, opened}
@@ -28,33 +26,6 @@ use Rattle.row_reading.specs.Columns.{first_reserved_id, column_of_kind, column_
 use Rattle.row_reading.specs.Columns.{no_fault, checked, columns_in, file_columns_of}
 use Rattle.stored_rows.specs.Refusal.{is_memory}
 use Rattle.stored_rows.specs.Stored.{IsHeld}
-
--- ---- kinds
-
--- an int holds cells of the kind that it stands for
-int_holds : (logical : Logical) → holds (int_kind logical) (Int logical) ≡ true
-int_holds Date = refl
-int_holds _ = refl
-
--- so does a long
-long_holds : (logical : Logical) → holds (long_kind logical) (Long logical) ≡ true
-long_holds TimeMicros = refl
-long_holds StampMicros = refl
-long_holds StampMicrosUtc = refl
-long_holds _ = refl
-
--- a type holds cells of its own kind, where it has one
-own_kind : (level : Level) → IfSome (kind_of level) (λ kind. holds kind level ≡ true)
-own_kind Boolean = refl
-own_kind (Int logical) = int_holds logical
-own_kind (Long logical) = long_holds logical
-own_kind Str = refl
-own_kind Raw = refl
-own_kind _ = tt
-
--- a type holds cells of the kind that its numbers stand for
-kind_holds : (level : Level) (kind : Kind) → kind_of level ≡ Some kind → holds kind level ≡ true
-kind_holds level kind is = subst (λ found. IfSome found (λ kind. holds kind level ≡ true)) is (own_kind level)
 
 -- ---- the column of a field
 

@@ -11,8 +11,8 @@ use Rattle.row_types.specs.declared.column.Kind.TheVariants as kinds
 use Rattle.schema_tree.specs.declared.schema.Schema.{Schema}
 use Rattle.schema_tree.specs.declared.schema.Field.{Field, out-Field}
 use Rattle.datum_tree.specs.declared.datum.Datum.{Datum}
-use Rattle.cell_reading.specs.Kind.{is_allowed}
-use Rattle.cell_reading.specs.Value.{values_of}
+use Rattle.avro_cells.specs.Kind.{is_allowed}
+use Rattle.avro_cells.specs.Value.{values_of}
 use Rattle.fields.specs.declared.wanted.Wanted.{Wanted}
 use Rattle.fields.specs.declared.leaf.Leaf.{Leaf}
 use Rattle.fields.specs.Flat.{inner_leaf, leaves}

@@ -10,7 +10,7 @@ use Rattle.schema_tree.specs.declared.schema.Field.{Field, out-Field}
 use Rattle.schema_tree.specs.declared.schema.Schema.{out-Schema}
 use Rattle.stored_rows.specs.declared.refusal.RowRefusal.{RowRefusal}
 use Rattle.stored_rows.specs.declared.refusal.RowRefusal.TheVariants.{Kind as WrongKind}
-use Rattle.cell_reading.specs.Kind.{Nullable, nullable, kind_of}
+use Rattle.avro_cells.specs.Kind.{Nullable, nullable, kind_of}
 use Rattle.fields.specs.Wanted.{fields_of}
 use Rattle.row_reading.specs.File.{Opened, opened}
 

@@ -5,7 +5,7 @@ ghost use Rattle.words.specs.Reading.{Gives, never};
 ghost use Rattle.schema_tree.specs.declared.schema.Field.{out-Field};
 ghost use Rattle.row_types.specs.Columns.{first_fault, has_name, has_wrong_name as wrong_name};
 ghost use Rattle.stored_rows.specs.Refusal.{is_memory};
-ghost use Rattle.cell_reading.specs.Kind.{nullable};
+ghost use Rattle.avro_cells.specs.Kind.{nullable};
 ghost use Rattle.fields.specs.Wanted.{fields_of};
 ghost use Rattle.stored_rows.specs.Field.{find};
 ghost use Rattle.row_reading.specs.File.{opened};
@@ -14,8 +14,8 @@ ghost use Rattle.row_reading.specs.Columns.{column_of_type, with_field, columns_
 ghost use Rattle.row_reading.specs.Fault.{id_of};
 
 use crate::opening::open_file;
+use avro_cells::{kind_of, nullable};
 use avro_container::Walk;
-use cell_reading::{kind_of, nullable};
 use fields::fields_of;
 use lists::Copied;
 use row_types::{Column, Columns, ColumnsRefusal};

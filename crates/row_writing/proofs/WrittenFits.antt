@@ -6,16 +6,15 @@ use Rattle.row_types.specs.declared.cell.Cell.{Cell}
 use Rattle.row_types.specs.declared.cell.Cell.TheVariants as cells
 use Rattle.row_types.specs.declared.column.Column.{Column}
 use Rattle.row_types.specs.declared.column.Kind.{Kind}
-use Rattle.row_types.specs.declared.column.Kind.TheVariants as kinds
 use Rattle.row_types.specs.declared.row.StoredRow.{StoredRow}
-use Rattle.row_types.specs.Fits.{is_long, has_flags, has_number, has_texts, has_bytes, fits as cell_fits, fits_row}
+use Rattle.row_types.specs.Fits.{is_long, fits as cell_fits, fits_row}
 use Rattle.schema_tree.specs.declared.schema.Schema.{Schema, roll-Schema}
 use Rattle.schema_tree.specs.declared.schema.Schema.TheOpen as layers
 use Rattle.schema_tree.specs.declared.schema.Schema.TheOpen.{Schema-F}
 use Rattle.schema_tree.specs.declared.schema.Schema.TheVariants as schemas
 use Rattle.schema_tree.specs.declared.schema.Schema.TheFolds.{map-Schema, fold-roll-Schema, fold_out-Field}
 use Rattle.schema_tree.specs.declared.schema.Field.{Field, out-Field}
-use Rattle.schema_tree.specs.declared.schema.Logical.TheVariants.{Plain}
+use Rattle.schema_tree.specs.declared.logical.Logical.TheVariants.{Plain}
 use Rattle.datum_tree.specs.declared.datum.Datum.{Datum, out-Datum}
 use Rattle.datum_tree.specs.declared.datum.Datum.TheOpen as values
 use Rattle.datum_tree.specs.declared.datum.Datum.TheVariants as datums
@@ -25,11 +24,12 @@ use Rattle.datum_tree.specs.Counts.{counts-Null, counts-Flag, counts-Num, counts
 use Rattle.datum_tree.specs.Counts.{counts-Rec}
 use Rattle.datum_tree.specs.Sums.{each, each_nil, each_cons}
 use Rattle.stored_rows.specs.Field.{row_id_field, last_updated_field}
-use Rattle.row_writing.specs.Writing.{row_id_name, last_updated_name, field_of, written_type, optional_type}
+use Rattle.avro_cells.specs.Kind.{written_type, optional_type}
+use Rattle.avro_cells.specs.ValueLaws.{long_number_fits, written_number_fits, written_flag_fits, written_text_fits, written_bytes_fit}
+use Rattle.row_writing.specs.Writing.{row_id_name, last_updated_name, field_of}
 use Rattle.row_writing.specs.Writing.{file_schema, column_field, lineage_fields, are_plain_names, cell_datum}
 use Rattle.row_writing.specs.Writing.{optional_datum, cell_data, number_datum, lineage_data, row_datum}
-use Rattle.row_writing.proofs.WrittenSchema.{written_level, rolls_written}
-use Rattle.row_writing.proofs.WrittenRows.{both_true, cell_level, out_cell, out_null, out_branch, out_record}
+use Rattle.row_writing.proofs.WrittenRows.{both_true, out_null, out_branch, out_record}
 
 -- ---- the value of a cell
 
@@ -42,35 +42,6 @@ fits_made : (schema : Schema) (level : Schema-F Schema Field) → roll-Schema le
 fits_made schema level made datum inside is =
     ap (λ (schema : Schema). fits_schema schema datum) (sym made)
     ∙ (ap (λ (test : Test). test datum) (fold-roll-Schema Test Test fits_of field_test level) ∙ ap (fits_level (tests level)) is)
-
--- a truth value of its kind
-flag_fits : (kind : Kind) (flag : Bool) → has_flags kind ≡ true → fits_level (tests (written_level kind)) (cell_level (cells.Flag flag)) ≡ true
-flag_fits kinds.Boolean flag fit = refl
-flag_fits _ flag fit = absurd cc
-
--- a number of its kind
-number_fits : (kind : Kind) (number : ℤ) → has_number kind number ≡ true → fits_level (tests (written_level kind)) (cell_level (cells.Num number)) ≡ true
-number_fits kinds.Int number fit = fit
-number_fits kinds.Date number fit = fit
-number_fits kinds.Long number fit = fit
-number_fits kinds.Time number fit = fit
-number_fits kinds.Timestamp number fit = fit
-number_fits kinds.Timestamptz number fit = fit
-number_fits _ number fit = absurd cc
-
--- a text of its kind
-text_fits : (kind : Kind) (text : List ℕ) → has_texts kind ≡ true → fits_level (tests (written_level kind)) (cell_level (cells.Text text)) ≡ true
-text_fits kinds.Text text fit = refl
-text_fits _ text fit = absurd cc
-
--- bytes of their kind
-bytes_fits : (kind : Kind) (bytes : List ℕ) → has_bytes kind ≡ true → fits_level (tests (written_level kind)) (cell_level (cells.Bytes bytes)) ≡ true
-bytes_fits kinds.Bytes bytes fit = refl
-bytes_fits _ bytes fit = absurd cc
-
--- the value of a cell is one of its kind's type where its level is
-by_level : (kind : Kind) (cell : Cell) → fits_level (tests (written_level kind)) (cell_level cell) ≡ true → fits_schema (written_type kind) (cell_datum cell) ≡ true
-by_level kind cell fit = fits_made (written_type kind) (written_level kind) (rolls_written kind) (cell_datum cell) (cell_level cell) (out_cell cell) ∙ fit
 
 -- a null beside a type
 null_beside : (type : Schema) → fits_schema (optional_type type) (datums.Branch 0 datums.Null) ≡ true
@@ -89,20 +60,20 @@ value_beside type value fit =
 in_column : (required : Bool) (kind : Kind) (cell : Cell) → cell_fits (record { id = pos 0; name = []; kind = kind; required = required }) cell ≡ true
     → fits_schema (if required then written_type kind else optional_type (written_type kind)) (if required then cell_datum cell else optional_datum cell) ≡ true
 in_column true kind cells.Null fit = absurd cc
-in_column true kind (cells.Flag flag) fit = by_level kind (cells.Flag flag) (flag_fits kind flag fit)
-in_column true kind (cells.Num number) fit = by_level kind (cells.Num number) (number_fits kind number fit)
-in_column true kind (cells.Text text) fit = by_level kind (cells.Text text) (text_fits kind text fit)
-in_column true kind (cells.Bytes bytes) fit = by_level kind (cells.Bytes bytes) (bytes_fits kind bytes fit)
+in_column true kind (cells.Flag flag) fit = written_flag_fits kind flag fit
+in_column true kind (cells.Num number) fit = written_number_fits kind number fit
+in_column true kind (cells.Text text) fit = written_text_fits kind text fit
+in_column true kind (cells.Bytes bytes) fit = written_bytes_fit kind bytes fit
 in_column false kind cells.Null fit = null_beside (written_type kind)
-in_column false kind (cells.Flag flag) fit = value_beside (written_type kind) (datums.Flag flag) (by_level kind (cells.Flag flag) (flag_fits kind flag fit))
-in_column false kind (cells.Num number) fit = value_beside (written_type kind) (datums.Num number) (by_level kind (cells.Num number) (number_fits kind number fit))
-in_column false kind (cells.Text text) fit = value_beside (written_type kind) (datums.Str text) (by_level kind (cells.Text text) (text_fits kind text fit))
-in_column false kind (cells.Bytes bytes) fit = value_beside (written_type kind) (datums.Raw bytes) (by_level kind (cells.Bytes bytes) (bytes_fits kind bytes fit))
+in_column false kind (cells.Flag flag) fit = value_beside (written_type kind) (datums.Flag flag) (written_flag_fits kind flag fit)
+in_column false kind (cells.Num number) fit = value_beside (written_type kind) (datums.Num number) (written_number_fits kind number fit)
+in_column false kind (cells.Text text) fit = value_beside (written_type kind) (datums.Str text) (written_text_fits kind text fit)
+in_column false kind (cells.Bytes bytes) fit = value_beside (written_type kind) (datums.Raw bytes) (written_bytes_fit kind bytes fit)
 
 -- a number that may be absent
 number_beside : (number : Option ℤ) → IfSome number (λ number. is_long number ≡ true) → fits_schema (optional_type (schemas.Long Plain)) (number_datum number) ≡ true
 number_beside None fit = null_beside (schemas.Long Plain)
-number_beside (Some number) fit = value_beside (schemas.Long Plain) (datums.Num number) (by_level kinds.Long (cells.Num number) fit)
+number_beside (Some number) fit = value_beside (schemas.Long Plain) (datums.Num number) (long_number_fits Plain number fit)
 
 -- ---- the values of fields
 

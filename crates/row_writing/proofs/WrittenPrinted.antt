@@ -1,13 +1,14 @@
 -- The text of the schema of a file that is written is read as the schema.
 use Rattle.std.proofs.Common.{◌≡◌, ℕ, suc, ◌+◌, ◌*◌, ◌≤◌, max, Bool, true, false, List, [], ◌∷◌, ◌++◌, length, map}
 use Rattle.std.proofs.Common.{refl, sym, ap, ap₂, ◌∙◌, arith}
-use Rattle.std.specs.Prelude.{◌&&◌, codes, if◌then◌else◌}
+use Rattle.std.specs.Prelude.{◌&&◌, Option, Some, None, codes, if◌then◌else◌}
+use Rattle.std.proofs.lemmas.Bool.{false≢true}
 use Rattle.std.specs.List.{list_all, flat_map, sum}
 use Rattle.std.proofs.lemmas.List.{length-map, length-append}
 use Rattle.std.proofs.lemmas.List.Sums.{sum_by-cons}
 use Rattle.row_types.specs.declared.column.Column.{Column}
 use Rattle.row_types.specs.declared.column.Kind.{Kind}
-use Rattle.row_types.specs.declared.column.Kind.TheVariants as kinds
+use Rattle.row_types.specs.declared.column.Kind.TheVariants.{Long}
 use Rattle.row_types.specs.Columns.{IsColumns}
 use Rattle.schema_tree.specs.declared.schema.Schema.{Schema, roll-Schema}
 use Rattle.schema_tree.specs.declared.schema.Schema.TheOpen as layers
@@ -18,13 +19,16 @@ use Rattle.schema_tree.specs.declared.schema.Schema.TheFolds.{fold_out-Field}
 use Rattle.schema_tree.specs.declared.schema.Field.{Field, out-Field}
 use Rattle.schema_tree.specs.Tree.{depth, depth_of, size, size_of, number_of_field}
 use Rattle.schema_tree.specs.Measure.{depth_of_fields, size_of_fields}
-use Rattle.avro_schema.specs.Printable.{Spelled, SpelledField, primitive, spelled, spelled_of, spelled_field}
+use Rattle.schema_tree.specs.Logical.{Attributes, int_attributes, long_attributes}
+use Rattle.avro_schema.specs.Printable.{Spelled, SpelledField, primitive, number_levels}
+use Rattle.avro_schema.specs.Printable.{spelled, spelled_of, spelled_field}
 use Rattle.avro_schema.specs.Printable.{schemas_of, levels_of, field_names, field_levels, is_avro_name, are_distinct}
 use Rattle.avro_schema.specs.Printable.{IsPrintable}
 use Rattle.schema_tree.specs.TreeLaws.{depth-Rec, size-Rec}
-use Rattle.row_writing.specs.Writing.{written_type, optional_type, column_field, lineage_fields, are_plain_names}
+use Rattle.avro_cells.specs.Kind.{Level, written_type, optional_type}
+use Rattle.avro_cells.specs.KindLaws.{written_level, rolls_written, is_cell_level, level_written}
+use Rattle.row_writing.specs.Writing.{column_field, lineage_fields, are_plain_names}
 use Rattle.row_writing.specs.Writing.{field_name, file_schema}
-use Rattle.row_writing.proofs.WrittenSchema.{written_level, rolls_written}
 use Rattle.row_writing.proofs.WrittenNames.{written_names, are_named}
 
 -- ---- the types
@@ -32,12 +36,8 @@ use Rattle.row_writing.proofs.WrittenNames.{written_names, are_named}
 -- a fold at the types of columns
 module _ {A B : Type 0} (step : Schema-F A B → A) (field : Field-F A B → B) where
   -- at a schema that is made of a level
-  fold_made : (schema : Schema) (level : Schema-F Schema Field) → roll-Schema level ≡ schema → fold-Schema A B step field schema ≡ step (map-Schema Schema Field A B (fold-Schema A B step field) (fold-Field A B step field) level)
+  fold_made : (schema : Schema) (level : Level) → roll-Schema level ≡ schema → fold-Schema A B step field schema ≡ step (map-Schema Schema Field A B (fold-Schema A B step field) (fold-Field A B step field) level)
   fold_made schema level made = ap (fold-Schema A B step field) (sym made) ∙ fold-roll-Schema A B step field level
-
-  -- at the type of a kind
-  fold_written : (kind : Kind) → fold-Schema A B step field (written_type kind) ≡ step (map-Schema Schema Field A B (fold-Schema A B step field) (fold-Field A B step field) (written_level kind))
-  fold_written kind = fold_made (written_type kind) (written_level kind) (rolls_written kind)
 
   -- at a type beside null
   fold_optional : (type : Schema) (inside : A) → fold-Schema A B step field type ≡ inside → fold-Schema A B step field (optional_type type) ≡ step (layers.Union (step layers.Null ∷ inside ∷ []))
@@ -45,36 +45,43 @@ module _ {A B : Type 0} (step : Schema-F A B → A) (field : Field-F A B → B) 
       fold_made (optional_type type) (layers.Union (schemas.Null ∷ type ∷ [])) (schemas.rolls-Union (schemas.Null ∷ type ∷ []))
       ∙ ap₂ (λ (first second : A). step (layers.Union (first ∷ second ∷ []))) (fold_made schemas.Null layers.Null schemas.rolls-Null) is
 
--- how deep the text of a kind's type nests
-abbrev kind_levels : Kind → ℕ
-kind_levels kinds.Boolean = 0
-kind_levels kinds.Int = 0
-kind_levels kinds.Long = 0
-kind_levels kinds.Date = 1
-kind_levels kinds.Time = 1
-kind_levels kinds.Timestamp = 1
-kind_levels kinds.Timestamptz = 1
-kind_levels kinds.Text = 0
-kind_levels kinds.Bytes = 0
+-- what is known of a type of cells
+record IsPlainType (schema : Schema) : Type 0 where
+  deep : ℕ
+  spelled : spelled schema ≡ primitive true deep
+  levels : deep ≤ 1
+  depth : depth schema ≡ 1
+  size : size schema ≡ 1
 
--- what is known of a kind's type
-record IsPlainType (kind : Kind) : Type 0 where
-  spelled : spelled (written_type kind) ≡ primitive true (kind_levels kind)
-  levels : kind_levels kind ≤ 1
-  depth : depth (written_type kind) ≡ 1
-  size : size (written_type kind) ≡ 1
+-- the text of a number nests once at most
+number_few : (attributes : Option Attributes) → number_levels attributes ≤ 1
+number_few None = omega arith
+number_few (Some attributes) = omega arith
 
--- it is known of each kind
-plain_type : (kind : Kind) → IsPlainType kind
-plain_type kinds.Boolean = record { spelled = fold_written spelled_of spelled_field kinds.Boolean; levels = omega arith; depth = fold_written depth_of number_of_field kinds.Boolean; size = fold_written size_of number_of_field kinds.Boolean }
-plain_type kinds.Int = record { spelled = fold_written spelled_of spelled_field kinds.Int; levels = omega arith; depth = fold_written depth_of number_of_field kinds.Int; size = fold_written size_of number_of_field kinds.Int }
-plain_type kinds.Long = record { spelled = fold_written spelled_of spelled_field kinds.Long; levels = omega arith; depth = fold_written depth_of number_of_field kinds.Long; size = fold_written size_of number_of_field kinds.Long }
-plain_type kinds.Date = record { spelled = fold_written spelled_of spelled_field kinds.Date; levels = omega arith; depth = fold_written depth_of number_of_field kinds.Date; size = fold_written size_of number_of_field kinds.Date }
-plain_type kinds.Time = record { spelled = fold_written spelled_of spelled_field kinds.Time; levels = omega arith; depth = fold_written depth_of number_of_field kinds.Time; size = fold_written size_of number_of_field kinds.Time }
-plain_type kinds.Timestamp = record { spelled = fold_written spelled_of spelled_field kinds.Timestamp; levels = omega arith; depth = fold_written depth_of number_of_field kinds.Timestamp; size = fold_written size_of number_of_field kinds.Timestamp }
-plain_type kinds.Timestamptz = record { spelled = fold_written spelled_of spelled_field kinds.Timestamptz; levels = omega arith; depth = fold_written depth_of number_of_field kinds.Timestamptz; size = fold_written size_of number_of_field kinds.Timestamptz }
-plain_type kinds.Text = record { spelled = fold_written spelled_of spelled_field kinds.Text; levels = omega arith; depth = fold_written depth_of number_of_field kinds.Text; size = fold_written size_of number_of_field kinds.Text }
-plain_type kinds.Bytes = record { spelled = fold_written spelled_of spelled_field kinds.Bytes; levels = omega arith; depth = fold_written depth_of number_of_field kinds.Bytes; size = fold_written size_of number_of_field kinds.Bytes }
+-- it is known of each type of cells
+plain_level : (schema : Schema) (level : Level) → roll-Schema level ≡ schema → is_cell_level level ≡ true → IsPlainType schema
+plain_level schema layers.Boolean made cells = record { deep = 0; spelled = fold_made spelled_of spelled_field schema layers.Boolean made; levels = omega arith; depth = fold_made depth_of number_of_field schema layers.Boolean made; size = fold_made size_of number_of_field schema layers.Boolean made }
+plain_level schema (layers.Int logical) made cells = record {
+  deep = number_levels (int_attributes logical);
+  spelled = fold_made spelled_of spelled_field schema (layers.Int logical) made ∙ ap (λ (right : Bool). primitive right (number_levels (int_attributes logical))) cells;
+  levels = number_few (int_attributes logical);
+  depth = fold_made depth_of number_of_field schema (layers.Int logical) made;
+  size = fold_made size_of number_of_field schema (layers.Int logical) made;
+}
+plain_level schema (layers.Long logical) made cells = record {
+  deep = number_levels (long_attributes logical);
+  spelled = fold_made spelled_of spelled_field schema (layers.Long logical) made ∙ ap (λ (right : Bool). primitive right (number_levels (long_attributes logical))) cells;
+  levels = number_few (long_attributes logical);
+  depth = fold_made depth_of number_of_field schema (layers.Long logical) made;
+  size = fold_made size_of number_of_field schema (layers.Long logical) made;
+}
+plain_level schema layers.Str made cells = record { deep = 0; spelled = fold_made spelled_of spelled_field schema layers.Str made; levels = omega arith; depth = fold_made depth_of number_of_field schema layers.Str made; size = fold_made size_of number_of_field schema layers.Str made }
+plain_level schema layers.Raw made cells = record { deep = 0; spelled = fold_made spelled_of spelled_field schema layers.Raw made; levels = omega arith; depth = fold_made depth_of number_of_field schema layers.Raw made; size = fold_made size_of number_of_field schema layers.Raw made }
+plain_level schema _ made cells = absurd (false≢true cells)
+
+-- so of the type of each kind
+plain_type : (kind : Kind) → IsPlainType (written_type kind)
+plain_type kind = plain_level (written_type kind) (written_level kind) (rolls_written kind) (level_written kind (written_type kind)).cells
 
 -- what is known of a column's type
 record IsSimple (schema : Schema) : Type 0 where
@@ -100,8 +107,8 @@ plain_simple kind =
 optional_simple : (kind : Kind) → IsSimple (optional_type (written_type kind))
 optional_simple kind =
     let plain = plain_type kind in
-    let known_is = fold_optional spelled_of spelled_field (written_type kind) (primitive true (kind_levels kind)) plain.spelled in
-    let levels_are : (spelled (optional_type (written_type kind))).levels ≡ suc (max 0 (max (kind_levels kind) 0)) = ap (λ (known : Spelled). known.levels) known_is in
+    let known_is = fold_optional spelled_of spelled_field (written_type kind) (primitive true plain.deep) plain.spelled in
+    let levels_are : (spelled (optional_type (written_type kind))).levels ≡ suc (max 0 (max plain.deep 0)) = ap (λ (known : Spelled). known.levels) known_is in
     let depth_is : depth (optional_type (written_type kind)) ≡ suc (max 1 (max 1 0)) = fold_optional depth_of number_of_field (written_type kind) 1 plain.depth in
     let size_is : size (optional_type (written_type kind)) ≡ suc (sum (1 ∷ 1 ∷ [])) = fold_optional size_of number_of_field (written_type kind) 1 plain.size in
     record {
@@ -160,7 +167,7 @@ simple_known (field ∷ fields) simple =
 -- the fields of a file that is written are simple
 fields_simple : (plain : Bool) (columns : List Column) (lineage : Bool) → AreSimple (map (column_field plain) columns ++ lineage_fields lineage)
 fields_simple plain [] false = tt
-fields_simple plain [] true = (optional_simple kinds.Long, (optional_simple kinds.Long, tt))
+fields_simple plain [] true = (optional_simple Long, (optional_simple Long, tt))
 fields_simple plain (column ∷ columns) lineage = (type_simple column.required column.kind, fields_simple plain columns lineage)
 
 -- their names

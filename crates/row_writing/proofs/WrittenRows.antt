@@ -19,7 +19,7 @@ use Rattle.datum_tree.specs.Value.{Level}
 use Rattle.fields.specs.Wanted.{fields_of}
 use Rattle.stored_rows.specs.Field.{is_this, find_from, row_id_field, last_updated_field}
 use Rattle.row_types.specs.CellRef.{is_null, number_of}
-use Rattle.cell_reading.specs.Value.{plain_cell, cell_of_level, cell_of, values_of_level, values_of}
+use Rattle.avro_cells.specs.Value.{plain_cell, cell_of_level, cell_of, values_of_level, values_of}
 use Rattle.stored_rows.specs.Row.{cell_at, cell_with}
 use Rattle.stored_rows.specs.Row.{stored_row}
 use Rattle.stored_rows.specs.Stored.{HasNoNull}
@@ -56,7 +56,7 @@ pub out_record : (values : List Datum) → out-Datum (datums.Rec values) ≡ lay
 out_record values = out_of (datums.Rec values) (layers.Rec values) (datums.rolls-Rec values)
 
 -- the level of a cell's value
-abbrev pub cell_level : Cell → Level
+abbrev cell_level : Cell → Level
 cell_level cells.Null = layers.Null
 cell_level (cells.Flag flag) = layers.Flag flag
 cell_level (cells.Num number) = layers.Num number
@@ -64,7 +64,7 @@ cell_level (cells.Text text) = layers.Str text
 cell_level (cells.Bytes bytes) = layers.Raw bytes
 
 -- a cell's value is of this level
-pub out_cell : (cell : Cell) → out-Datum (cell_datum cell) ≡ cell_level cell
+out_cell : (cell : Cell) → out-Datum (cell_datum cell) ≡ cell_level cell
 out_cell cells.Null = out_null
 out_cell (cells.Flag flag) = out_of (datums.Flag flag) (layers.Flag flag) (datums.rolls-Flag flag)
 out_cell (cells.Num number) = out_of (datums.Num number) (layers.Num number) (datums.rolls-Num number)

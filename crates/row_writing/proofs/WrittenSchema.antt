@@ -1,6 +1,6 @@
 -- The schema of a file that is written of rows: its fields, their ids and their types. Each column is read from its own field.
 use Rattle.std.proofs.Common.{◌≡◌, ℕ, zero, suc, ◌+◌, Bool, true, false, List, [], ◌∷◌, ◌++◌, map, get_or, Some, inl}
-use Rattle.std.proofs.Common.{inr, refl, sym, ap, ap₂, subst, ◌∙◌, arith}
+use Rattle.std.proofs.Common.{inr, refl, sym, ap, subst, ◌∙◌, arith}
 use Rattle.std.specs.Prelude.{◌≢◌, ℤ, pos, ◌≤ℤ◌, Option, codes, if◌then◌else◌}
 use Rattle.std.specs.List.{All, AllPairs}
 use Rattle.std.specs.Ordering.{int_eq}
@@ -9,20 +9,20 @@ use Rattle.std.proofs.lemmas.Bool.Decides.{Decides-int_eq}
 use Rattle.std.proofs.lemmas.Int.{ints}
 use Rattle.std.proofs.lemmas.List.Elements.{All-nil, All-cons, All-head, All-tail}
 use Rattle.row_types.specs.declared.column.Column.{Column}
-use Rattle.row_types.specs.declared.column.Kind.{Kind}
-use Rattle.row_types.specs.declared.column.Kind.TheVariants as kinds
+use Rattle.row_types.specs.declared.column.Kind.TheVariants.{Long}
 use Rattle.row_types.specs.Columns.{IsColumns}
 use Rattle.schema_tree.specs.declared.schema.Schema.{Schema, out-Schema, roll-Schema, out-roll-Schema}
 use Rattle.schema_tree.specs.declared.schema.Schema.TheOpen as layers
 use Rattle.schema_tree.specs.declared.schema.Schema.TheVariants as schemas
 use Rattle.schema_tree.specs.declared.schema.Field.{Field, out-Field}
-use Rattle.schema_tree.specs.declared.schema.Logical.TheVariants.{Plain, Date, TimeMicros, StampMicros, StampMicrosUtc}
-use Rattle.cell_reading.specs.Kind.{Level, is_null, nullable_level, beside_null, holds, is_allowed_as, is_allowed}
+use Rattle.schema_tree.specs.declared.logical.Logical.TheVariants.{Plain}
+use Rattle.avro_cells.specs.Kind.{Level, is_allowed, written_type, optional_type}
+use Rattle.avro_cells.specs.KindLaws.{written_allowed, optional_allowed}
 use Rattle.fields.specs.Wanted.{fields_of, fields_of_level}
 use Rattle.stored_rows.specs.Field.{Found, is_this, find_from, find, row_id_field}
 use Rattle.stored_rows.specs.Field.{last_updated_field}
 use Rattle.stored_rows.specs.Stored.{IsThere, HoldsLongs, AreReadable}
-use Rattle.row_writing.specs.Writing.{written_type, optional_type, file_schema, column_field, lineage_fields}
+use Rattle.row_writing.specs.Writing.{file_schema, column_field, lineage_fields}
 use Rattle.row_writing.specs.Writing.{are_plain_names}
 
 -- ---- its levels
@@ -30,34 +30,6 @@ use Rattle.row_writing.specs.Writing.{are_plain_names}
 -- what a schema is made of
 out_of : (schema : Schema) (level : Level) → roll-Schema level ≡ schema → out-Schema schema ≡ level
 out_of schema level is = ap out-Schema (sym is) ∙ out-roll-Schema level
-
--- the level of the type that a kind is written as
-abbrev pub written_level : Kind → Level
-written_level kinds.Boolean = layers.Boolean
-written_level kinds.Int = layers.Int Plain
-written_level kinds.Long = layers.Long Plain
-written_level kinds.Date = layers.Int Date
-written_level kinds.Time = layers.Long TimeMicros
-written_level kinds.Timestamp = layers.Long StampMicros
-written_level kinds.Timestamptz = layers.Long StampMicrosUtc
-written_level kinds.Text = layers.Str
-written_level kinds.Bytes = layers.Raw
-
--- the type of a kind is made of this level
-pub rolls_written : (kind : Kind) → roll-Schema (written_level kind) ≡ written_type kind
-rolls_written kinds.Boolean = schemas.rolls-Boolean
-rolls_written kinds.Int = schemas.rolls-Int Plain
-rolls_written kinds.Long = schemas.rolls-Long Plain
-rolls_written kinds.Date = schemas.rolls-Int Date
-rolls_written kinds.Time = schemas.rolls-Long TimeMicros
-rolls_written kinds.Timestamp = schemas.rolls-Long StampMicros
-rolls_written kinds.Timestamptz = schemas.rolls-Long StampMicrosUtc
-rolls_written kinds.Text = schemas.rolls-Str
-rolls_written kinds.Bytes = schemas.rolls-Raw
-
--- and it is taken apart as this level
-out_written : (kind : Kind) → out-Schema (written_type kind) ≡ written_level kind
-out_written kind = out_of (written_type kind) (written_level kind) (rolls_written kind)
 
 -- its fields are those of the columns, and those of lineage behind them
 pub written_fields : (columns : List Column) (lineage : Bool) → fields_of (file_schema columns lineage) ≡ map (column_field (are_plain_names columns)) columns ++ lineage_fields lineage
@@ -67,50 +39,17 @@ written_fields columns lineage =
 
 -- ---- the types
 
--- what a type of a kind is, by its level
-record IsPlain (kind : Kind) (schema : Schema) (level : Level) : Type 0 where
-  bare : nullable_level schema level ≡ Some (record { has_null = false; type = schema })
-  not_null : is_null level ≡ false
-  held : holds kind level ≡ true
-
--- the type of a kind is none of those with null
-plain_written : (kind : Kind) (schema : Schema) → IsPlain kind schema (written_level kind)
-plain_written kinds.Boolean schema = record { bare = refl; not_null = refl; held = refl }
-plain_written kinds.Int schema = record { bare = refl; not_null = refl; held = refl }
-plain_written kinds.Long schema = record { bare = refl; not_null = refl; held = refl }
-plain_written kinds.Date schema = record { bare = refl; not_null = refl; held = refl }
-plain_written kinds.Time schema = record { bare = refl; not_null = refl; held = refl }
-plain_written kinds.Timestamp schema = record { bare = refl; not_null = refl; held = refl }
-plain_written kinds.Timestamptz schema = record { bare = refl; not_null = refl; held = refl }
-plain_written kinds.Text schema = record { bare = refl; not_null = refl; held = refl }
-plain_written kinds.Bytes schema = record { bare = refl; not_null = refl; held = refl }
-
--- a type is read as its kind
-bare_allowed : (kind : Kind) (schema : Schema) (level : Level) → out-Schema schema ≡ level → IsPlain kind schema level → is_allowed kind schema ≡ true
-bare_allowed kind schema level is plain = ap (is_allowed_as kind) (ap (nullable_level schema) is ∙ plain.bare) ∙ (ap (holds kind) is ∙ plain.held)
-
--- and so it is beside null
-optional_allowed : (kind : Kind) (schema : Schema) (level : Level) → out-Schema schema ≡ level → IsPlain kind schema level → is_allowed kind (optional_type schema) ≡ true
-optional_allowed kind schema level is plain =
-    let branches : List Schema = schemas.Null ∷ schema ∷ [] in
-    let union : out-Schema (optional_type schema) ≡ layers.Union branches = out_of (optional_type schema) (layers.Union branches) (schemas.rolls-Union branches) in
-    let null : is_null (out-Schema schemas.Null) ≡ true = ap is_null (out_of schemas.Null layers.Null schemas.rolls-Null) in
-    let other : is_null (out-Schema schema) ≡ false = ap is_null is ∙ plain.not_null in
-    ap (λ (level : Level). is_allowed_as kind (nullable_level (optional_type schema) level)) union
-    ∙ ap₂ (λ (first second : Bool). is_allowed_as kind (beside_null first second schemas.Null schema)) null other
-    ∙ ap (holds kind) is ∙ plain.held
-
 -- the type of a column's field is read as the column's kind
 pub field_allowed : (plain : Bool) (column : Column) → is_allowed column.kind (out-Field (column_field plain column)).schema ≡ true
 field_allowed plain column = by_required column.required
   where
     by_required : (required : Bool) → is_allowed column.kind (if required then written_type column.kind else optional_type (written_type column.kind)) ≡ true
-    by_required true = bare_allowed column.kind (written_type column.kind) (written_level column.kind) (out_written column.kind) (plain_written column.kind (written_type column.kind))
-    by_required false = optional_allowed column.kind (written_type column.kind) (written_level column.kind) (out_written column.kind) (plain_written column.kind (written_type column.kind))
+    by_required true = written_allowed column.kind
+    by_required false = optional_allowed column.kind
 
 -- and that of a lineage column as a long
-lineage_allowed : is_allowed kinds.Long (optional_type (schemas.Long Plain)) ≡ true
-lineage_allowed = optional_allowed kinds.Long (schemas.Long Plain) (layers.Long Plain) (out_written kinds.Long) (plain_written kinds.Long (schemas.Long Plain))
+lineage_allowed : is_allowed Long (optional_type (schemas.Long Plain)) ≡ true
+lineage_allowed = optional_allowed Long
 
 -- ---- the ids
 

@@ -8,16 +8,15 @@ use Rattle.std.specs.Str.{bytes_eq}
 use Rattle.row_types.specs.declared.cell.Cell.{Cell}
 use Rattle.row_types.specs.declared.cell.Cell.TheVariants as cells
 use Rattle.row_types.specs.declared.column.Column.{Column}
-use Rattle.row_types.specs.declared.column.Kind.{Kind}
-use Rattle.row_types.specs.declared.column.Kind.TheVariants as kinds
 use Rattle.row_types.specs.declared.row.StoredRow.{StoredRow}
 use Rattle.limits.specs.declared.which.Which.TheVariants.{FileRows, Object}
 use Rattle.schema_tree.specs.declared.schema.Schema.{Schema}
 use Rattle.schema_tree.specs.declared.schema.Schema.TheVariants as schemas
 use Rattle.schema_tree.specs.declared.schema.Field.{Field, roll-Field}
-use Rattle.schema_tree.specs.declared.schema.Logical.TheVariants.{Plain, Date, TimeMicros, StampMicros, StampMicrosUtc}
+use Rattle.schema_tree.specs.declared.logical.Logical.TheVariants.{Plain}
 use Rattle.avro_schema.specs.Printing.{schema_text}
 use Rattle.avro_schema.specs.Printable.{is_avro_name}
+use Rattle.avro_cells.specs.Kind.{written_type, optional_type}
 use Rattle.datum_tree.specs.declared.datum.Datum.{Datum}
 use Rattle.datum_tree.specs.declared.datum.Datum.TheVariants as datums
 use Rattle.datum_writing.specs.Canonical.{canonical}
@@ -30,22 +29,6 @@ use Rattle.stored_rows.specs.declared.refusal.RowRefusal.{RowRefusal}
 use Rattle.stored_rows.specs.declared.refusal.RowRefusal.TheVariants.{Limit}
 use Rattle.stored_rows.specs.Field.{row_id_field, last_updated_field}
 use Rattle.limits.specs.Limits.{most_rows}
-
--- the type that the cells of a kind are written as
-abbrev pub written_type : Kind → Schema
-written_type kinds.Boolean = schemas.Boolean
-written_type kinds.Int = schemas.Int Plain
-written_type kinds.Long = schemas.Long Plain
-written_type kinds.Date = schemas.Int Date
-written_type kinds.Time = schemas.Long TimeMicros
-written_type kinds.Timestamp = schemas.Long StampMicros
-written_type kinds.Timestamptz = schemas.Long StampMicrosUtc
-written_type kinds.Text = schemas.Str
-written_type kinds.Bytes = schemas.Raw
-
--- a type beside null, which comes first
-abbrev pub optional_type : Schema → Schema
-optional_type type = schemas.Union (schemas.Null ∷ type ∷ [])
 
 -- a field of this name and id
 abbrev pub field_of : List ℕ → ℤ → Schema → Field

@@ -4,11 +4,13 @@ ghost use Rattle.std.specs.Prelude.{◌≡◌, ◌++◌, true, if◌then◌else�
 ghost use Rattle.std.specs.List.{list_all};
 ghost use Rattle.row_types.specs.declared.column.Kind.TheVariants.{Long};
 ghost use Rattle.avro_schema.specs.Printable.{begins_name as begins, goes_on_name as goes_on, is_avro_name as avro_name};
-ghost use Rattle.row_writing.specs.Writing.{written_type as type_of, optional_type as type_beside_null, field_of as field_with, field_name as name_of, column_field as field_of_column, is_plain_name as plain_name, are_plain_names as plain_names, lineage_fields, row_id_name, last_updated_name, file_schema as schema_of_file};
+ghost use Rattle.avro_cells.specs.Kind.{written_type as type_of, optional_type as type_beside_null};
+ghost use Rattle.row_writing.specs.Writing.{field_of as field_with, field_name as name_of, column_field as field_of_column, is_plain_name as plain_name, are_plain_names as plain_names, lineage_fields, row_id_name, last_updated_name, file_schema as schema_of_file};
 
+use avro_cells::{optional_type, written_type};
 use avro_wire::Text;
 use lists::{Copied, List};
-use row_types::{Column, Kind};
+use row_types::Column;
 use schema_tree::{Field, Logical, Schema};
 use std::alloc::{AllocError, Global};
 use stored_rows::{LAST_UPDATED_FIELD, ROW_ID_FIELD};
@@ -102,33 +104,6 @@ fn lineage_field(alloc: Global, name: &str, id: i32) -> Result<Field, AllocError
         id: Some(id),
         schema,
     })
-}
-
-/// The type that the cells of a kind are written as.
-fn written_type(kind: Kind) -> Schema
-    ensures { result ≡ type_of kind }
-{
-    match kind {
-        Kind::Boolean => Schema::Boolean,
-        Kind::Int => Schema::Int(Logical::Plain),
-        Kind::Long => Schema::Long(Logical::Plain),
-        Kind::Date => Schema::Int(Logical::Date),
-        Kind::Time => Schema::Long(Logical::TimeMicros),
-        Kind::Timestamp => Schema::Long(Logical::StampMicros),
-        Kind::Timestamptz => Schema::Long(Logical::StampMicrosUtc),
-        Kind::Text => Schema::Str,
-        Kind::Bytes => Schema::Raw,
-    }
-}
-
-/// The type beside null, which comes first.
-fn optional_type(alloc: Global, schema: Schema) -> Result<Schema, AllocError>
-    ensures { IfOk result (λ both. both ≡ type_beside_null schema) }
-{
-    let mut branches = Vec::new(alloc);
-    branches.push(Schema::Null)?;
-    branches.push(schema)?;
-    Ok(Schema::Union(List::from_vec(branches)))
 }
 
 /// Whether all names can stand in a schema as they are.

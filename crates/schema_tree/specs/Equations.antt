@@ -1,6 +1,6 @@
 -- What a fold is at each kind of schema, and at a field.
 use Rattle.std.proofs.Common.{◌≡◌, ℕ, ℤ, Bool, List, [], ◌∷◌, map, Option, refl, ap, ap₂, sym, ◌∙◌}
-use Rattle.schema_tree.specs.declared.schema.Logical.{Logical}
+use Rattle.schema_tree.specs.declared.logical.Logical.{Logical}
 use Rattle.schema_tree.specs.declared.schema.Schema.{Schema}
 use Rattle.schema_tree.specs.declared.schema.Schema.TheVariants as schemas
 use Rattle.schema_tree.specs.declared.schema.Schema.TheVariants.{rolls-Null, rolls-Boolean, rolls-Int, rolls-Long}

@@ -1,4 +1,6 @@
 pub mod Names
+pub mod Logical
+pub mod LogicalLaws
 pub mod Tree
 pub mod Measure
 pub mod Ids

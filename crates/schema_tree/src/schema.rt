@@ -4,6 +4,7 @@ ghost use Rattle.std.specs.Prelude.{◌≡◌, IfOk};
 ghost use Rattle.schema_tree.specs.declared.schema.Field.{out-Field};
 ghost use Rattle.schema_tree.specs.declared.schema.Schema.TheVariants.{Enum, Fixed, Rec};
 
+use crate::logical::Logical;
 use avro_wire::Text;
 use lists::{Copied, Keyed, List};
 use sqlite_items::Boxed;
@@ -17,21 +18,6 @@ pub type Names = List<Name>;
 pub type Fields = List<Field>;
 /// Branches.
 pub type Branches = List<Schema>;
-
-/// What a number stands for. Avro spec, "Logical Types".
-#[derive(Clone, Copy, Debug, PartialEq, Eq)]
-pub enum Logical {
-    /// A number alone.
-    Plain,
-    /// Of an int: days since 1970-01-01.
-    Date,
-    /// Of a long: microseconds since midnight.
-    TimeMicros,
-    /// Of a long: microseconds since 1970-01-01T00:00:00, in no time zone.
-    StampMicros,
-    /// Of a long: microseconds since 1970-01-01T00:00:00 in UTC.
-    StampMicrosUtc,
-}
 
 /// A field of a record.
 #[cycle(schema)]

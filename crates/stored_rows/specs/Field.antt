@@ -11,7 +11,7 @@ use Rattle.schema_tree.specs.declared.schema.Schema.{Schema}
 use Rattle.schema_tree.specs.declared.schema.Field.{Field, out-Field}
 use Rattle.stored_rows.specs.declared.refusal.RowRefusal.{RowRefusal}
 use Rattle.stored_rows.specs.declared.refusal.RowRefusal.TheVariants.{MissingColumn, Kind as WrongKind}
-use Rattle.cell_reading.specs.Kind.{is_allowed}
+use Rattle.avro_cells.specs.Kind.{is_allowed}
 
 -- the ids of the lineage columns: a row's id, and the sequence number of its last change
 abbrev pub row_id_field : ℤ

@@ -9,7 +9,7 @@ use Rattle.row_types.specs.declared.column.Kind.{Kind}
 use Rattle.row_types.specs.declared.column.Kind.TheVariants as kinds
 use Rattle.schema_tree.specs.declared.schema.Field.{Field}
 use Rattle.words.specs.Steps.{bind_then, test_failed}
-use Rattle.cell_reading.specs.Kind.{is_allowed}
+use Rattle.avro_cells.specs.Kind.{is_allowed}
 use Rattle.stored_rows.specs.Field.{Found, find, row_id_field, last_updated_field, is_missing, is_wrong}
 use Rattle.stored_rows.specs.Field.{check_missing, check_kind, check_kinds, check_fields}
 use Rattle.stored_rows.specs.Stored.{IsThere, HoldsLongs, AreReadable}

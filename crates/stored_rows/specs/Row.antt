@@ -9,7 +9,7 @@ use Rattle.row_types.specs.declared.row.Row.{Row}
 use Rattle.row_types.specs.declared.row.StoredRow.{StoredRow}
 use Rattle.schema_tree.specs.declared.schema.Field.{Field}
 use Rattle.datum_tree.specs.declared.datum.Datum.{Datum}
-use Rattle.cell_reading.specs.Value.{cell_of}
+use Rattle.avro_cells.specs.Value.{cell_of}
 use Rattle.stored_rows.specs.Field.{Found, find, row_id_field, last_updated_field}
 
 -- ---- the inheritance of lineage

@@ -17,11 +17,11 @@ use Rattle.avro_container.specs.declared.container.Container.{Container}
 use Rattle.avro_container.specs.Header.{schema_key, bound_to}
 use Rattle.avro_container.specs.Format.{IsContainer}
 use Rattle.objects.specs.Held.{Hold}
-use Rattle.cell_reading.specs.Kind.{is_allowed}
+use Rattle.avro_cells.specs.Kind.{is_allowed}
 use Rattle.fields.specs.Wanted.{fields_of}
 use Rattle.stored_rows.specs.Field.{Found, find, row_id_field, last_updated_field}
 use Rattle.row_types.specs.CellRef.{is_null}
-use Rattle.cell_reading.specs.Value.{values_of}
+use Rattle.avro_cells.specs.Value.{values_of}
 use Rattle.stored_rows.specs.Row.{stored_row}
 use Rattle.stored_rows.specs.Rows.{rows_from}
 

@@ -5,7 +5,7 @@ ghost use Rattle.std.specs.declared.option.Option.TheVariants.{None, Some};
 ghost use Rattle.stored_rows.specs.Field.{is_this, find, is_missing, is_wrong, check_missing, check_kind, check_kinds, check_fields};
 
 use crate::refusal::RowRefusal;
-use cell_reading::is_allowed;
+use avro_cells::is_allowed;
 use row_types::{Column, Kind};
 use schema_tree::{Field, Schema};
 

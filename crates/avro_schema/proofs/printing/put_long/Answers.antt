@@ -1,9 +1,7 @@
-use Rattle.std.proofs.Common.{ap}
-use Rattle.avro_schema.specs.Printing.{long_tokens}
-use Rattle.avro_schema.proofs.Puts.{put_then, wrote_last, puts_as}
+use Rattle.std.proofs.Common.{sym, ap, codes}
+use Rattle.avro_schema.specs.Printing.{number_tokens}
+use Rattle.avro_schema.proofs.Puts.{puts_as}
 use Rattle.avro_schema.proofs.printing.put_long.Goals as goal
 
-pub returns-in_ok-begin_logical-in-TimeMicros : goal.returns-in_ok-begin_logical-in-TimeMicros
-returns-in_ok-begin_logical-in-TimeMicros c =
-    puts_as _ c.args.out.now c.end_object.new.self (ap long_tokens c.in-TimeMicros.is)
-    (put_then _ c.args.out.now c.begin_logical.new.out c.end_object.new.self _ _ c.in_ok-begin_logical-in-TimeMicros.ensures (wrote_last _ _ _ _ c.end_object.ensures))
+pub returns : goal.returns
+returns c = puts_as _ c.args.out.now c.put_number.new.out (ap (number_tokens (codes "long")) (sym c.long_attributes.ensures)) c.put_number.ensures

@@ -5,7 +5,7 @@ use Rattle.std.specs.declared.option.Option.{Option}
 use Rattle.std.specs.declared.option.Option.TheVariants.{None}
 use Rattle.row_types.specs.CellRef.{is_null}
 use Rattle.datum_reading.specs.Reading.{datum_at}
-use Rattle.cell_reading.specs.declared.form.Form.{Form}
+use Rattle.avro_cells.specs.declared.form.Form.{Form}
 use Rattle.fields.specs.declared.leaf.Leaf.{Leaf}
 use Rattle.fields.specs.Nulls.{with_nulls}
 use Rattle.fields.specs.Record.{fields_as, first_as, read_as}

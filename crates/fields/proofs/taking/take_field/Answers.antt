@@ -1,6 +1,6 @@
 use Rattle.std.proofs.Common.{◌≡◌, sym, ◌∙◌}
 use Rattle.std.specs.declared.option.Option.TheVariants.{Some}
-use Rattle.cell_reading.specs.Form.{form_of}
+use Rattle.avro_cells.specs.Form.{form_of}
 use Rattle.fields.proofs.taking.take_field.Goals as goal
 
 pub returns-in-Some-clause-exact : goal.returns-in-Some-clause-exact

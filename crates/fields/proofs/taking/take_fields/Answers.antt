@@ -4,7 +4,7 @@ use Rattle.std.proofs.lemmas.Result.{err_from_is_err_and}
 use Rattle.std.specs.declared.option.Option.{Option}
 use Rattle.std.specs.declared.option.Option.TheVariants.{None}
 use Rattle.datum_reading.specs.Reading.{datum_at}
-use Rattle.cell_reading.specs.declared.form.Form.{Form}
+use Rattle.avro_cells.specs.declared.form.Form.{Form}
 use Rattle.row_types.specs.CellRef.{lent_cell}
 use Rattle.fields.specs.declared.leaf.Leaf.{Leaf}
 use Rattle.fields.specs.Record.{fields_as, read_as}

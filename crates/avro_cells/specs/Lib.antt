@@ -1,0 +1,5 @@
+pub mod Kind
+pub mod KindLaws
+pub mod Value
+pub mod ValueLaws
+pub mod Form
