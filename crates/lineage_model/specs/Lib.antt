@@ -4,4 +4,5 @@ pub mod Rows
 pub mod Asked
 pub mod Opening
 pub mod Step
+pub mod Tally
 pub mod History
