@@ -12,3 +12,5 @@ mod RunsFits
 mod RequestFits
 mod EntryLemmas
 mod EntryLaws
+mod TallyLemmas
+mod AuditingLemmas

@@ -5,3 +5,4 @@ pub mod Request
 pub mod Entry
 pub mod EntryParts
 pub mod Audit
+pub mod Auditing

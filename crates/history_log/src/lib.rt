@@ -11,8 +11,11 @@
 //! | `rules` | the rules of one entry |
 //! | `step` | the state after an entry |
 //! | `history` | the audit of a whole history |
+//! | `taker` | what takes the entries of a history, one by one |
+//! | `auditor` | an audit that takes the entries one by one, and keeps no row |
 #![tactic(auto)]
 
+mod auditor;
 mod entry;
 mod history;
 mod ids;
@@ -22,9 +25,12 @@ mod request;
 mod rules;
 mod runs;
 mod step;
+mod taker;
 
+pub use auditor::{Audit, audit_agrees};
 pub use entry::{print_entry, read_entry};
 pub use history::audit;
-pub use lineage_model::Rule;
+pub use lineage_model::{Rule, Tally};
 pub use refusal::HistoryRefusal;
 pub use request::{print_request, put_request, read_request, take_request};
+pub use taker::Taker;

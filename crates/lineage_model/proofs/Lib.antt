@@ -20,3 +20,4 @@ mod EndsMayBegin
 mod GivenIds
 mod AppendInTwo
 mod Unchanged
+mod Counted

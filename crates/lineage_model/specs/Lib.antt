@@ -4,5 +4,6 @@ pub mod Rows
 pub mod Asked
 pub mod Opening
 pub mod Step
+pub mod Tally
 pub mod History
 pub mod Examples

@@ -1,14 +1,17 @@
 //! What follows for every legal history. Each law is the contract of a function that does nothing.
 
-ghost use Rattle.std.specs.Prelude.{◌≡◌, ◌≢◌, ℕ, ℤ, true, All, List, [], ◌++◌, length, map, Some};
+ghost use Rattle.std.specs.Prelude.{◌≡◌, ◌≢◌, ℕ, ℤ, true, All, List, [], ◌++◌, length, map, Some, None};
 ghost use Rattle.std.specs.List.{AllPairs, slice_get};
 ghost use Rattle.row_types.specs.RowMap.{UnnamedRow, row_at};
 ghost use Rattle.row_types.specs.declared.cell.Cell.{Cell};
 ghost use Rattle.history_types.specs.declared.request.Request.TheVariants.{Append};
+ghost use Rattle.history_types.specs.declared.entry.Entry.{Entry as AEntry};
+ghost use Rattle.history_types.specs.declared.state.State.{State as AState};
 ghost use Rattle.lineage_model.specs.Ids.{ids_of};
 ghost use Rattle.lineage_model.specs.Rows.{stamped};
 ghost use Rattle.lineage_model.specs.Opening.{is_opening};
-ghost use Rattle.lineage_model.specs.Step.{gives_ids, ids_given_by, LegalStep};
+ghost use Rattle.lineage_model.specs.Step.{gives_ids, ids_given_by, LegalStep, broken_rule, applied};
+ghost use Rattle.lineage_model.specs.Tally.{tally_of, rule_broken, counted};
 ghost use Rattle.lineage_model.specs.History.{IsHistory, AreLegal, state_after, ids_given, IsBelow, DidNotFall, IsAppend, IsCompaction, IsUpgrade};
 
 use history_types::{Entries, Entry, State};
@@ -108,4 +111,18 @@ pub fn an_append_of_version_2_names_no_row(before: &State, entry: &Entry, after:
     ensures rows { after.now.rows ≡ before.now.rows }
     ensures unnamed { (rows : List (List Cell)) → entry.now.request ≡ Append rows
         → after.now.unnamed ≡ before.now.unnamed ++ map (stamped after.now.seq) rows }
+{}
+
+/// The numbers of a state say which rule an entry breaks; and of a legal step from a state that a
+/// history may begin with they say the numbers behind it.
+pub fn numbers_are_enough()
+    ensures rules { (state : AState) (entry : AEntry)
+        → rule_broken (tally_of state) entry ≡ broken_rule state entry }
+    ensures counted { (state : AState) (entry : AEntry) → is_opening state ≡ true
+        → broken_rule state entry ≡ None
+        → tally_of (applied state entry) ≡ counted (tally_of state) entry }
+    // And a history may begin with the state behind it.
+    ensures opening { (state : AState) (entry : AEntry) → is_opening state ≡ true
+        → broken_rule state entry ≡ None
+        → is_opening (applied state entry) ≡ true }
 {}

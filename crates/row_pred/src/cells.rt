@@ -55,7 +55,8 @@ pub fn take_cells(
     // What is read fits the columns.
     ensures fits { IfOk result (λ read. IsRow columns.now read.0) }
 {
-    let mut cells = List::new(alloc);
+    // A row has a cell for each column, so no room is left over.
+    let mut cells = Vec::with_capacity(alloc, columns.len())?;
     let mut at = place;
     for column in columns {
         let start = next_cell(text, at, &cells)?;
@@ -63,7 +64,7 @@ pub fn take_cells(
         cells.push(cell)?;
         at = after;
     }
-    Ok((cells, at))
+    Ok((List::from_vec(cells), at))
 }
 
 /// Puts the text of the cells behind `out`.
@@ -78,9 +79,9 @@ pub fn put_cells(out: &mut String, cells: &[Cell]) -> Result<(), AllocError>
 }
 
 /// Where the next cell begins behind those before it: behind a gap, where it is not the first.
-fn next_cell(text: &str, place: usize, before: &Cells) -> Result<usize, PredRefusal>
+fn next_cell(text: &str, place: usize, before: &Vec<Cell>) -> Result<usize, PredRefusal>
     requires { place ≤ length text.now }
-    ensures exact { result ≡ next_at before.now text.now place }
+    ensures exact { result ≡ next_at before.now.items text.now place }
     ensures within { IfOk result (λ after. (place ≤ after) × (after ≤ length text.now)) }
 {
     if before.is_empty() {

@@ -6,5 +6,5 @@ abbrev pub invariant-loop-column : goal.invariant-loop-column
 invariant-loop-column l = record {
   start : l.place ≤ l.at;
   within : l.at ≤ length l.text;
-  so_far : cells_from l.cells (drop l.column-index l.columns) l.text l.at ≡ cells_at l.columns l.text l.place;
+  so_far : cells_from l.cells.items (drop l.column-index l.columns) l.text l.at ≡ cells_at l.columns l.text l.place;
 }
