@@ -1,4 +1,5 @@
 pub mod PairsLemmas
+pub mod PairSteps
 pub mod HeaderLemmas
 pub mod WalkLemmas
 pub mod Keys

@@ -1,8 +1,8 @@
 -- Bytes behind their length, and so many bytes, by the relation: what is read is spelled so, and what is spelled so is read.
-use Rattle.std.proofs.Common.{◌≡◌, ℕ, ◌+◌, ◌-◌, ◌≤◌, ℤ, pos, negsuc, List, ◌++◌, length, take, drop, slice_range, Ok}
+use Rattle.std.proofs.Common.{◌≡◌, ℕ, ◌+◌, ◌-◌, ◌≤◌, ℤ, pos, negsuc, List, ◌++◌, length, drop, slice_range, Ok}
 use Rattle.std.proofs.Common.{refl, sym, ap, subst, ◌∙◌, append_assoc, arith}
 use Rattle.std.proofs.lemmas.Bool.{ltb-false, le-ltb}
-use Rattle.std.proofs.lemmas.List.{length-drop, length-append, length-take-le, take-append-drop}
+use Rattle.std.proofs.lemmas.List.{length-append}
 use Rattle.words.specs.Grammar.{Joined}
 use Rattle.avro_wire.specs.Number.{long, SpellsNumber}
 use Rattle.avro_wire.specs.Blocks.{SpellsBytes}

@@ -1,11 +1,9 @@
 -- A block of the header's map that tells its size, by the relation: what is read is spelled so, and what is spelled so is read.
-use Rattle.std.proofs.Common.{◌≡◌, ℕ, suc, ◌+◌, ◌-◌, ◌≤◌, ℤ, pos, negsuc, true, false, List, ◌++◌, length, drop, Ok}
+use Rattle.std.proofs.Common.{◌≡◌, ℕ, suc, ◌+◌, ◌-◌, ◌≤◌, pos, negsuc, true, false, List, ◌++◌, length, drop, Ok}
 use Rattle.std.proofs.Common.{nat_lt, inr, refl, sym, ap, subst, ◌∙◌, append_assoc, arith}
 use Rattle.std.proofs.lemmas.Bool.{eq-eqb, ltb-false, le-ltb}
 use Rattle.std.proofs.lemmas.List.{length-append}
-use Rattle.words.specs.Grammar.{Joined}
-use Rattle.avro_wire.specs.Number.{long, SpellsNumber}
-use Rattle.avro_wire.specs.Blocks.{SpellsItems, IsSized}
+use Rattle.avro_wire.specs.Blocks.{IsSized}
 use Rattle.avro_wire.specs.TookLaws.{sized_is}
 use Rattle.avro_container.specs.declared.refusal.ContainerRefusal.TheVariants.{Header}
 use Rattle.avro_container.specs.Header.{Pair, most_pairs, is_natural, map_number_at, pairs_at, sized_at, map_block_at}
@@ -15,7 +13,7 @@ use Rattle.words.specs.Steps.{bind_then, test_passed, test_failed, ok_is}
 use Rattle.avro_container.proofs.SpelledNumber.{map_number_took, map_number_again}
 use Rattle.avro_container.proofs.SpelledPairs.{pairs_took, pairs_again}
 use Rattle.avro_container.proofs.Keys.{IsSoFar}
-use Rattle.avro_container.proofs.MapBlock.{SpellsMapBlock, is_natural_is, BlockTook, BlockAgain}
+use Rattle.avro_container.proofs.MapBlock.{is_natural_is, BlockTook, BlockAgain}
 
 -- what is read is spelled so
 pub sized_took : (place n : ℕ) (pairs : List Pair) (input : List ℕ) (start : ℕ) (taken : List Pair × ℕ)

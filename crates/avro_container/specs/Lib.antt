@@ -1,6 +1,7 @@
 pub mod Refusal
 pub mod RefusalText
 pub mod Header
+pub mod Pairs
 pub mod Block
 pub mod Container
 pub mod Walk

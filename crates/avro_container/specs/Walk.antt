@@ -1,5 +1,5 @@
 -- What a walk keeps of the bytes that it lends blocks of.
-use Rattle.std.specs.Prelude.{◌≡◌, ℕ, ◌-◌, ◌≤◌, List, [], length, true, is_ok}
+use Rattle.std.specs.Prelude.{◌≡◌, ℕ, ◌≤◌, List, [], length, true, is_ok}
 use Rattle.words.specs.Reading.{value_or}
 use Rattle.avro_container.specs.Header.{Pair}
 use Rattle.avro_container.specs.Block.{blocks_left}

@@ -40,7 +40,7 @@ pub fn bound_to<'a>(meta: &'a Meta, key: &str) -> Option<&'a [u8]>
 }
 
 /// What the key is bound to among the pairs. `None`: no pair has the key.
-pub fn bound_in<'a>(pairs: &'a [(Text, Bytes)], key: &str) -> Option<&'a [u8]>
+fn bound_in<'a>(pairs: &'a [(Text, Bytes)], key: &str) -> Option<&'a [u8]>
     ensures { option_copied result ≡ value_of pairs.now key.now }
 {
     for pair in pairs {

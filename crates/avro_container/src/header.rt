@@ -1,11 +1,12 @@
 //! Reading the magic bytes, the header's map and what it has to have.
 
-ghost use Rattle.std.specs.Prelude.{◌≡◌, ◌+◌, ◌<◌, ◌≤◌, length, nat_lt, IfOk};
+ghost use Rattle.std.specs.Prelude.{◌≡◌, ◌+◌, ◌<◌, ◌≤◌, ◌^◌, length, nat_lt, IfOk};
 ghost use Rattle.words.specs.Reading.{Gives, never};
 ghost use Rattle.avro_container.specs.Refusal.{is_memory, header_refusal as refusal_in_header};
 ghost use Rattle.avro_container.specs.Header.{magic_at, map_number_at, item_at, key_at, pair_at, pairs_at, counted_at, sized_at, map_block_at, map_at, most_pairs, checked, part_at, header_at};
+ghost use Rattle.avro_container.specs.Pairs.{with_pair, pair_there, pairs_there};
 
-use crate::pairs::{Pairs, has_pair, push_pair, value_of};
+use crate::pairs::Pairs;
 use crate::refusal::ContainerRefusal;
 use avro_wire::{Bytes, WireRefusal, take_bytes, take_long, text_of};
 use std::alloc::Global;
@@ -16,17 +17,19 @@ pub const MAGIC: [u8; 4] = [0x4f, 0x62, 0x6a, 1];
 /// The most pairs that a header may have.
 const MOST_PAIRS: u64 = 16_777_216;
 
-/// The header's pairs, and where the marker behind them begins.
+/// The places at which the header's pairs begin, and where the marker behind them begins.
 #[tactic(auto, unfolding(crate::specs::Header::header_at))]
-pub fn take_header(alloc: Global, input: &[u8]) -> Result<(Pairs, usize), ContainerRefusal>
-    ensures exact { Gives is_memory (λ header. header) result (header_at input.now) }
+pub fn take_header(alloc: Global, input: &[u8]) -> Result<(Vec<u32>, usize), ContainerRefusal>
+    requires { length input.now < 2 ^ 32 }
+    ensures exact { Gives is_memory (λ header. (pairs_there input.now header.0.items, header.1))
+        result (header_at input.now) }
     ensures within { IfOk result (λ header. header.1 ≤ length input.now) }
 {
     let start = take_magic(input)?;
-    let mut pairs = Pairs::new(alloc);
-    let after = take_map(alloc, &mut pairs, input, start)?;
+    let mut pairs = Pairs::new(alloc, input);
+    let after = take_map(&mut pairs, input, start)?;
     check(alloc, &pairs, after)?;
-    Ok((pairs, after))
+    Ok((pairs.into_places(), after))
 }
 
 /// The next `count` bytes, whole: where they end.
@@ -64,16 +67,17 @@ fn take_magic(input: &[u8]) -> Result<usize, ContainerRefusal>
 }
 
 /// The map's pairs: the place after it.
-fn take_map(
-    alloc: Global,
-    pairs: &mut Pairs,
-    input: &[u8],
+fn take_map<'a>(
+    pairs: &mut Pairs<'a>,
+    input: &'a [u8],
     place: usize,
 ) -> Result<usize, ContainerRefusal>
-    requires { place ≤ length input.now }
-    ensures exact { Gives is_memory (λ after. (pairs.new, after)) result
-        (map_at (length input.now) pairs.old input.now place) }
+    requires within { place ≤ length input.now }
+    requires input { pairs.old.input ≡ input.now }
+    ensures exact { Gives is_memory (λ after. (pairs.new.pairs, after)) result
+        (map_at (length input.now) pairs.old.pairs input.now place) }
     ensures within { IfOk result (λ after. (place ≤ after) × (after ≤ length input.now)) }
+    ensures input { pairs.new.input ≡ input.now }
 {
     let mut at = place;
     for _ in 0..input.len() {
@@ -81,7 +85,7 @@ fn take_map(
         if count == 0 {
             return Ok(start);
         }
-        at = take_map_block(alloc, pairs, count, input, at, start)?;
+        at = take_map_block(pairs, count, input, at, start)?;
     }
     Ok(at)
 }
@@ -111,40 +115,42 @@ fn header_refusal(refusal: WireRefusal) -> ContainerRefusal
 
 /// The block of the map whose count, which is not 0, stood at `place`: the place after it.
 #[tactic(auto, unfolding(crate::specs::Header::map_block_at))]
-fn take_map_block(
-    alloc: Global,
-    pairs: &mut Pairs,
+fn take_map_block<'a>(
+    pairs: &mut Pairs<'a>,
     count: i64,
-    input: &[u8],
+    input: &'a [u8],
     place: usize,
     start: usize,
 ) -> Result<usize, ContainerRefusal>
-    requires { start ≤ length input.now }
-    ensures exact { Gives is_memory (λ after. (pairs.new, after)) result
-        (map_block_at place pairs.old input.now (count, start)) }
+    requires within { start ≤ length input.now }
+    requires input { pairs.old.input ≡ input.now }
+    ensures exact { Gives is_memory (λ after. (pairs.new.pairs, after)) result
+        (map_block_at place pairs.old.pairs input.now (count, start)) }
     ensures within { IfOk result (λ after. (start ≤ after) × (after ≤ length input.now)) }
+    ensures input { pairs.new.input ≡ input.now }
 {
     if count < 0 {
-        take_sized(alloc, pairs, count.unsigned_abs(), input, place, start)
+        take_sized(pairs, count.unsigned_abs(), input, place, start)
     } else {
-        take_counted(alloc, pairs, count as u64, input, place, start)
+        take_counted(pairs, count as u64, input, place, start)
     }
 }
 
 /// The pairs of a block that tells its size, which has to be true: the place after them.
 #[tactic(auto, unfolding(crate::specs::Header::sized_at))]
-fn take_sized(
-    alloc: Global,
-    pairs: &mut Pairs,
+fn take_sized<'a>(
+    pairs: &mut Pairs<'a>,
     count: u64,
-    input: &[u8],
+    input: &'a [u8],
     place: usize,
     start: usize,
 ) -> Result<usize, ContainerRefusal>
-    requires { start ≤ length input.now }
-    ensures exact { Gives is_memory (λ after. (pairs.new, after)) result
-        (sized_at place count pairs.old input.now start) }
+    requires within { start ≤ length input.now }
+    requires input { pairs.old.input ≡ input.now }
+    ensures exact { Gives is_memory (λ after. (pairs.new.pairs, after)) result
+        (sized_at place count pairs.old.pairs input.now start) }
     ensures within { IfOk result (λ after. (start ≤ after) × (after ≤ length input.now)) }
+    ensures input { pairs.new.input ≡ input.now }
 {
     if are_too_many(pairs, count) {
         return Err(ContainerRefusal::Header {
@@ -152,7 +158,7 @@ fn take_sized(
         });
     }
     let (size, first) = take_map_number(input, start)?;
-    let after = take_pairs(alloc, pairs, count, input, first)?;
+    let after = take_pairs(pairs, count, input, first)?;
     if size != (after - first) as i64 {
         return Err(ContainerRefusal::Header {
             place: start as u64,
@@ -162,45 +168,47 @@ fn take_sized(
 }
 
 /// Whether so many pairs more are too many.
-fn are_too_many(pairs: &Pairs, count: u64) -> bool
-    ensures { result ≡ nat_lt most_pairs (length pairs.now + count) }
+fn are_too_many(pairs: &Pairs<'_>, count: u64) -> bool
+    ensures { result ≡ nat_lt most_pairs (length pairs.now.pairs + count) }
 {
     let before = pairs.len() as u64;
     before > MOST_PAIRS || count > MOST_PAIRS - before
 }
 
 /// So many pairs behind those before them: the place after them.
-fn take_pairs(
-    alloc: Global,
-    pairs: &mut Pairs,
+fn take_pairs<'a>(
+    pairs: &mut Pairs<'a>,
     count: u64,
-    input: &[u8],
+    input: &'a [u8],
     place: usize,
 ) -> Result<usize, ContainerRefusal>
-    requires { place ≤ length input.now }
-    ensures exact { Gives is_memory (λ after. (pairs.new, after)) result
-        (pairs_at count pairs.old input.now place) }
+    requires within { place ≤ length input.now }
+    requires input { pairs.old.input ≡ input.now }
+    ensures exact { Gives is_memory (λ after. (pairs.new.pairs, after)) result
+        (pairs_at count pairs.old.pairs input.now place) }
     ensures within { IfOk result (λ after. (place ≤ after) × (after ≤ length input.now)) }
+    ensures input { pairs.new.input ≡ input.now }
 {
     let mut at = place;
     for _ in 0..count {
-        at = take_pair(alloc, pairs, input, at)?;
+        at = take_pair(pairs, input, at)?;
     }
     Ok(at)
 }
 
 /// A pair behind those before it: the place after it.
 #[tactic(auto, unfolding(crate::specs::Header::pair_at, crate::specs::Header::key_at))]
-fn take_pair(
-    alloc: Global,
-    pairs: &mut Pairs,
-    input: &[u8],
+fn take_pair<'a>(
+    pairs: &mut Pairs<'a>,
+    input: &'a [u8],
     place: usize,
 ) -> Result<usize, ContainerRefusal>
-    requires { place ≤ length input.now }
-    ensures exact { Gives is_memory (λ after. (pairs.new, after)) result
-        (pair_at pairs.old input.now place) }
+    requires within { place ≤ length input.now }
+    requires input { pairs.old.input ≡ input.now }
+    ensures exact { Gives is_memory (λ after. (pairs.new.pairs, after)) result
+        (pair_at pairs.old.pairs input.now place) }
     ensures within { IfOk result (λ after. (place < after) × (after ≤ length input.now)) }
+    ensures input { pairs.new.input ≡ input.now }
 {
     let (start, end) = take_item(input, place)?;
     let Some(key) = text_of(&input[start..end]) else {
@@ -208,21 +216,47 @@ fn take_pair(
             place: place as u64,
         });
     };
-    if has_pair(pairs, key) {
-        return Err(ContainerRefusal::Header {
-            place: place as u64,
-        });
+    match take_item(input, end) {
+        Ok((_, after)) => add_pair(pairs, key, place, after),
+        Err(refusal) => {
+            // That the key stood before is told first.
+            if pairs.has(key) {
+                return Err(ContainerRefusal::Header {
+                    place: place as u64,
+                });
+            }
+            Err(refusal)
+        }
     }
-    let (start, after) = take_item(input, end)?;
-    push_pair(alloc, pairs, key, &input[start..after])?;
-    Ok(after)
+}
+
+/// Adds the pair that begins at the place, whose key no pair may have: the place after it.
+fn add_pair<'a>(
+    pairs: &mut Pairs<'a>,
+    key: &'a str,
+    place: usize,
+    after: usize,
+) -> Result<usize, ContainerRefusal>
+    requires within { place ≤ length pairs.old.input }
+    requires key { (pair_there pairs.old.input place).0 ≡ key.now }
+    ensures exact { Gives is_memory (λ after. (pairs.new.pairs, after)) result
+        (with_pair pairs.old.pairs (pair_there pairs.old.input place) place after) }
+    ensures value { IfOk result (λ a. a ≡ after) }
+    ensures input { pairs.new.input ≡ pairs.old.input }
+{
+    if pairs.push(key, place)? {
+        return Ok(after);
+    }
+    Err(ContainerRefusal::Header {
+        place: place as u64,
+    })
 }
 
 /// Where the bytes of a key or a value start, and where they end.
 #[tactic(auto, unfolding(crate::specs::Header::item_at))]
-fn take_item(input: &[u8], place: usize) -> Result<(usize, usize), ContainerRefusal>
+pub fn take_item(input: &[u8], place: usize) -> Result<(usize, usize), ContainerRefusal>
     requires { place ≤ length input.now }
-    ensures exact { Gives is_memory (λ taken. taken) result (item_at input.now place) }
+    ensures exact { Gives never (λ taken. taken) result (item_at input.now place) }
     ensures within { IfOk result (λ taken.
         (place < taken.0) × (taken.0 ≤ taken.1) × (taken.1 ≤ length input.now)) }
 {
@@ -234,38 +268,40 @@ fn take_item(input: &[u8], place: usize) -> Result<(usize, usize), ContainerRefu
 
 /// The pairs of a block whose count stood at `place`: the place after them.
 #[tactic(auto, unfolding(crate::specs::Header::counted_at))]
-fn take_counted(
-    alloc: Global,
-    pairs: &mut Pairs,
+fn take_counted<'a>(
+    pairs: &mut Pairs<'a>,
     count: u64,
-    input: &[u8],
+    input: &'a [u8],
     place: usize,
     start: usize,
 ) -> Result<usize, ContainerRefusal>
-    requires { start ≤ length input.now }
-    ensures exact { Gives is_memory (λ after. (pairs.new, after)) result
-        (counted_at place count pairs.old input.now start) }
+    requires within { start ≤ length input.now }
+    requires input { pairs.old.input ≡ input.now }
+    ensures exact { Gives is_memory (λ after. (pairs.new.pairs, after)) result
+        (counted_at place count pairs.old.pairs input.now start) }
     ensures within { IfOk result (λ after. (start ≤ after) × (after ≤ length input.now)) }
+    ensures input { pairs.new.input ≡ input.now }
 {
     if are_too_many(pairs, count) {
         return Err(ContainerRefusal::Header {
             place: place as u64,
         });
     }
-    take_pairs(alloc, pairs, count, input, start)
+    take_pairs(pairs, count, input, start)
 }
 
 /// Whether the map has what a header needs: `place` is where it ends.
 #[tactic(auto, unfolding(crate::specs::Header::checked))]
-fn check(alloc: Global, pairs: &Pairs, place: usize) -> Result<(), ContainerRefusal>
-    ensures { Gives is_memory (λ _. (pairs.now, place)) result (checked (pairs.now, place)) }
+fn check(alloc: Global, pairs: &Pairs<'_>, place: usize) -> Result<(), ContainerRefusal>
+    ensures { Gives is_memory (λ _. (pairs.now.pairs, place)) result
+        (checked (pairs.now.pairs, place)) }
 {
-    if !has_pair(pairs, "avro.schema") {
+    if !pairs.has("avro.schema") {
         return Err(ContainerRefusal::Header {
             place: place as u64,
         });
     }
-    match value_of(pairs, "avro.codec") {
+    match pairs.value_of("avro.codec") {
         None => Ok(()),
         Some(name) if name == b"null".as_slice() => Ok(()),
         Some(name) => Err(ContainerRefusal::Codec {

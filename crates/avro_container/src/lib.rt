@@ -4,7 +4,7 @@
 //! |---|---|
 //! | `refusal` | why bytes are no container |
 //! | `container` | a container as plain data |
-//! | `pairs` | the pairs of a header, with distinct keys |
+//! | `pairs` | the pairs of a header, kept as places in the input, with distinct keys |
 //! | `header` | reading the magic bytes and the header's map |
 //! | `block` | reading one block |
 //! | `walk` | the whole framing checked, and its blocks lent one after the other |

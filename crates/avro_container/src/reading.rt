@@ -6,12 +6,12 @@ ghost use Rattle.avro_container.specs.Refusal.{is_memory};
 ghost use Rattle.avro_container.specs.Container.{most_bytes, container_at};
 ghost use Rattle.avro_container.specs.Format.{IsContainer};
 
-use crate::container::{Block, Container};
+use crate::container::{Block, Blocks, Container};
 use crate::refusal::ContainerRefusal;
-use crate::walk::open_walk;
+use crate::walk::{Walk, open_walk};
 use avro_wire::Bytes;
 use sqlite_items::Items;
-use std::alloc::Global;
+use std::alloc::{AllocError, Global};
 
 /// The container that the bytes are, all of them, or the first refusal in their order.
 /// Avro spec, "Object Container Files".
@@ -31,12 +31,21 @@ fn container_of(alloc: Global, input: &[u8]) -> Result<Container, ContainerRefus
     ensures exact { Gives is_memory (λ container. container) result (container_at input.now) }
 {
     let mut walk = open_walk(alloc, input)?;
+    let blocks = blocks_of(alloc, &mut walk)?;
+    let meta = walk.meta(alloc)?;
+    let sync = walk.sync();
+    Ok(Container { meta, sync, blocks })
+}
+
+/// The blocks that the walk has left, in memory of their own. An `Err` says that memory ran out.
+fn blocks_of(alloc: Global, walk: &mut Walk<'_>) -> Result<Blocks, AllocError>
+    ensures blocks { IfOk result (λ blocks. blocks ≡ walk.old.left) }
+    ensures whole { walk.new.whole ≡ walk.old.whole }
+{
     let mut blocks = Items::new(alloc);
     while let Some((count, bytes)) = walk.next() {
         let bytes = Bytes::from_slice(alloc, bytes)?;
         blocks.push(Block { count, bytes })?;
     }
-    let sync = walk.sync();
-    let meta = walk.into_meta();
-    Ok(Container { meta, sync, blocks })
+    Ok(blocks)
 }

@@ -1,8 +1,10 @@
 //! The whole framing of a file checked, and its blocks lent one after the other.
 
 ghost use Rattle.std.specs.Prelude.{◌≡◌, ℕ, ◌≤◌, List, [], ◌∷◌, length, IfNone, IfOk, Ok, MatchOption};
+ghost use Rattle.std.specs.Option.{option_copied};
 ghost use Rattle.words.specs.Reading.{Gives, never, outcome};
 ghost use Rattle.avro_container.specs.Refusal.{is_memory};
+ghost use Rattle.avro_container.specs.Header.{bound_to as value_of};
 ghost use Rattle.avro_container.specs.Block.{blocks_at};
 ghost use Rattle.avro_container.specs.Container.{most_bytes, container_at};
 ghost use Rattle.avro_container.specs.Format.{IsContainer};
@@ -11,9 +13,9 @@ ghost use Rattle.avro_container.specs.declared.container.Container.{Container};
 use crate::block::{SYNC_BYTES, take_frame};
 use crate::container::Meta;
 use crate::header::{take_header, take_part};
-use crate::pairs::into_meta;
+use crate::pairs::{copies, value_there};
 use crate::refusal::ContainerRefusal;
-use std::alloc::Global;
+use std::alloc::{AllocError, Global};
 use std::marker::Model;
 
 /// The most bytes of a file.
@@ -24,7 +26,8 @@ const MOST_BYTES: u64 = 67_108_864;
 #[derive(Drop)]
 pub struct Walk<'a> {
     input: &'a [u8],
-    meta: Meta,
+    /// Where the header's pairs begin.
+    pairs: Vec<u32>,
     sync: [u8; 16],
     /// Where the first block begins.
     first: usize,
@@ -36,11 +39,13 @@ pub struct Walk<'a> {
 
 impl<'a> Model for Walk<'a> {
     ghost use Rattle.avro_container.specs.Container.{Walked};
+    ghost use Rattle.avro_container.specs.Pairs.{pairs_there};
     ghost use Rattle.avro_container.specs.Walk.{walked_of, IsFramed};
 
     ghost Value = { Walked };
 
-    ghost view = { λ w. walked_of w.input.now w.meta w.sync w.first w.place w.lent };
+    ghost view = { λ w. walked_of w.input.now (pairs_there w.input.now w.pairs.items) w.sync
+        w.first w.place w.lent };
 
     ghost invariant = { λ w. IsFramed w.input.now w.sync w.first w.place w.lent };
 }
@@ -48,11 +53,19 @@ impl<'a> Model for Walk<'a> {
 impl<'a> Walk<'a> {
     ghost use Rattle.avro_container.specs.Container.{Walked};
 
-    /// The header's pairs.
-    pub fn meta(&self) -> &Meta
-        ensures { result.now ≡ self.now.whole.meta }
+    /// What the key is bound to in the header, borrowed from the input. `None`: no pair has the
+    /// key.
+    pub fn bound_to(&self, key: &str) -> Option<&'a [u8]>
+        ensures { option_copied result ≡ value_of self.now.whole.meta key.now }
     {
-        &self.meta
+        value_there(self.input, self.pairs.as_slice(), key)
+    }
+
+    /// The header's pairs, in memory of their own. An `Err` says that memory ran out.
+    pub fn meta(&self, alloc: Global) -> Result<Meta, AllocError>
+        ensures { IfOk result (λ meta. meta ≡ self.now.whole.meta) }
+    {
+        copies(alloc, self.input, self.pairs.as_slice())
     }
 
     /// The header's marker.
@@ -89,13 +102,6 @@ impl<'a> Walk<'a> {
     {
         self.place = self.first;
         self.lent = 0;
-    }
-
-    /// The header's pairs alone.
-    pub fn into_meta(self) -> Meta
-        ensures { result ≡ self.entry.whole.meta }
-    {
-        self.meta
     }
 }
 
@@ -143,7 +149,7 @@ fn walk_of(alloc: Global, input: &[u8]) -> Result<Walk<'_>, ContainerRefusal>
     check_blocks(&sync, input, first)?;
     Ok(Walk {
         input,
-        meta: into_meta(pairs),
+        pairs,
         sync,
         first,
         place: first,

@@ -39,10 +39,11 @@ fn lends_two(walk: &mut Walk<'_>) -> bool {
 fn is_walked(alloc: Global, bytes: &[u8]) -> bool {
     match open_walk(alloc, bytes) {
         Ok(mut walk) => {
-            let is_right = walk.sync().as_slice() == MARKER
-                && walk.meta().len() == 2
-                && lends_two(&mut walk);
-            walk.into_meta().len() == 2 && is_right
+            walk.sync().as_slice() == MARKER
+                && walk.bound_to("avro.schema") == Some(SCHEMA)
+                && walk.bound_to("avro.codec") == Some(b"null")
+                && walk.bound_to("avro").is_none()
+                && lends_two(&mut walk)
         }
         Err(_) => false,
     }

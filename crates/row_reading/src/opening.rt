@@ -7,7 +7,7 @@ ghost use Rattle.avro_container.specs.Container.{container_at};
 ghost use Rattle.stored_rows.specs.Refusal.{is_memory, container_refusal, schema_refusal};
 ghost use Rattle.row_reading.specs.File.{schema_in, opened};
 
-use avro_container::{ContainerRefusal, Meta, Walk, bound_to, open_walk};
+use avro_container::{ContainerRefusal, Walk, open_walk};
 use avro_schema::{SchemaRefusal, read_schema};
 use limits::Which;
 use schema_tree::Schema;
@@ -23,7 +23,7 @@ pub fn open_file(alloc: Global, bytes: &[u8]) -> Result<(Walk<'_>, Schema), RowR
     ensures few { IfOk result (λ file. length file.0.whole.blocks ≤ length bytes.now) }
 {
     let walk = open_blocks(alloc, bytes)?;
-    let schema = schema_in(alloc, walk.meta())?;
+    let schema = schema_of(alloc, &walk)?;
     Ok((walk, schema))
 }
 
@@ -55,12 +55,12 @@ fn container_refusal(refusal: ContainerRefusal) -> RowRefusal
 }
 
 /// The schema that the header binds.
-fn schema_in(alloc: Global, meta: &Meta) -> Result<Schema, RowRefusal>
+fn schema_of(alloc: Global, walk: &Walk<'_>) -> Result<Schema, RowRefusal>
     ensures exact { Gives is_memory (λ schema. schema) result
-        (schema_in (value_of meta.now schema_key)) }
+        (schema_in (value_of walk.now.whole.meta schema_key)) }
 {
     // Each header that was read binds one.
-    let text = bound_to(meta, "avro.schema").unwrap_or(&[]);
+    let text = walk.bound_to("avro.schema").unwrap_or(&[]);
     match read_schema(alloc, text) {
         Ok(schema) => Ok(schema),
         Err(refusal) => Err(schema_refusal(refusal)),

@@ -6,5 +6,6 @@ abbrev pub invariant-loop : goal.invariant-loop
 invariant-loop l = record {
   start : l.place ≤ l.at;
   within : l.at ≤ length l.input;
-  so_far : map_at (length l.input - l.counter) l.pairs l.input l.at ≡ map_at (length l.input) l.fn.pairs l.input l.place;
+  input : l.pairs.input ≡ l.input;
+  so_far : map_at (length l.input - l.counter) l.pairs.pairs l.input l.at ≡ map_at (length l.input) l.fn.pairs.pairs l.input l.place;
 }
