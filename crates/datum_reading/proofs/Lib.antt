@@ -10,3 +10,4 @@ mod SpelledList
 mod SpelledParts
 pub mod SpelledDatum
 mod DatumLaws
+pub mod Compacting

@@ -6,3 +6,4 @@ pub mod Block
 pub mod Layers
 pub mod FieldSteps
 pub mod Agreeing
+pub mod Compact

@@ -7,15 +7,18 @@
 //! | `primitive`, `block` | numbers, truth values, bytes and texts, taken at a cursor; the heads and ends of blocks |
 //! | `reading` | the value of some bytes |
 //! | `skipping` | where a value ends, without building it |
+//! | `compact` | schemas without the fields that take no bytes |
 #![tactic(auto)]
 
 mod block;
+mod compact;
 mod cursor;
 mod primitive;
 mod reading;
 mod refusal;
 mod skipping;
 
+pub use compact::compacted;
 pub use cursor::Cursor;
 pub use primitive::{
     pass_raw, pass_sized, take_choice, take_flag, take_int_at, take_long_at, take_text,

@@ -7,3 +7,4 @@ pub mod TakingLemmas
 pub mod FirstLemmas
 pub mod PassingLemmas
 pub mod AgreeingLaws
+pub mod AlikeLaws

@@ -1,6 +1,7 @@
 -- A record, of which some fields are wanted, by a reading and by a relation.
 use Rattle.std.specs.Prelude.{◌≡◌, ℕ, Bool, true, false, List, [], ◌∷◌, length, map, get_or, Option, Some, None}
-use Rattle.std.specs.Prelude.{Result, Ok}
+use Rattle.std.specs.Prelude.{◌++◌, Result, Ok}
+use Rattle.std.specs.List.{AllZip}
 use Rattle.words.specs.Reading.{◌>>=◌, map_refusal, map_value}
 use Rattle.words.specs.Parts.{Stand, Took}
 use Rattle.row_types.specs.declared.cell.Cell.{Cell}
@@ -145,10 +146,32 @@ passed_at schema wanted input place = map_value (λ read. read.1) (record_at sch
 
 -- ---- how a layout is right
 
+-- the values of a type are read as those of another one: in the same form, to the same cells and places
+pub record IsTypeReadAs (type other : Schema) : Type 0 where
+  pub form : form_of type ≡ form_of other
+  pub read : (input : List ℕ) (at : Cursor)
+      → field_as (form_of other) (datum_at type input at) ≡ field_as (form_of other) (datum_at other input at)
+
+-- so is a field, which has the ids of the other one
+pub record IsReadAs (leaf other : Leaf) : Type 0 where
+  pub parent : leaf.parent ≡ other.parent
+  pub id : leaf.id ≡ other.id
+  pub schema : IsTypeReadAs leaf.schema other.schema
+
+-- each of some fields is read as the one at its place among others
+abbrev pub AreReadAs : List Leaf → List Leaf → Type 0
+AreReadAs leaves others = AllZip IsReadAs leaves others
+
+-- behind the fields before stand some more, which are read as others
+pub record AddsReadAs (before after others : List Leaf) : Type 0 where
+  pub more : List Leaf
+  pub grown : after ≡ before ++ more
+  pub read : AreReadAs more others
+
 -- a layout is one for its schema and for what is wanted
 pub record IsLayout (layout : Layout) : Type 0 where
-  pub leaves_are : layout.leaves.items ≡ kept (leaves (opens layout.wanted.items) (fields_of layout.schema))
-  pub forms : layout.forms.items ≡ forms_of (kept (leaves (opens layout.wanted.items) (fields_of layout.schema)))
+  pub leaves_are : AreReadAs layout.leaves.items (kept (leaves (opens layout.wanted.items) (fields_of layout.schema)))
+  pub forms : layout.forms.items ≡ forms_of layout.leaves.items
   pub sources : layout.sources.items
       ≡ map (place_in (leaves (opens layout.wanted.items) (fields_of layout.schema))) layout.wanted.items
   pub needed : layout.needed.items ≡ needed_from layout.wanted.items layout.sources.items 0 (length layout.leaves.items)

@@ -7,7 +7,7 @@ ghost use Rattle.fields.specs.Kept.{kept, slot_at};
 ghost use Rattle.fields.specs.Nulls.{first_of, is_at, is_needed, needed_from};
 ghost use Rattle.fields.specs.Wanted.{fields_of as fields_in, opens, source as source_in};
 ghost use Rattle.fields.specs.Wanted.{check_missing as missing_in};
-ghost use Rattle.fields.specs.Record.{is_memory, place_in, forms_of as forms_in, IsLayout};
+ghost use Rattle.fields.specs.Record.{is_memory, place_in, forms_of as forms_in, AreReadAs, IsLayout};
 
 use crate::leaf::{Leaf, LentLeaf, kept_of, leaves_of, slots_of};
 use crate::refusal::FieldRefusal;
@@ -65,9 +65,8 @@ fn plan_of(alloc: Global, schema: &Schema, wanted: &[Wanted]) -> Result<Plan, Fi
     ensures missing { Gives is_memory (λ _. tt) result
         (missing_in (leaves (opens wanted.now) (fields_in schema.now)) wanted.now) }
     ensures leaves { IfOk result (λ plan.
-        plan.leaves.items ≡ kept (leaves (opens wanted.now) (fields_in schema.now))) }
-    ensures forms { IfOk result (λ plan.
-        plan.forms.items ≡ forms_in (kept (leaves (opens wanted.now) (fields_in schema.now)))) }
+        AreReadAs plan.leaves.items (kept (leaves (opens wanted.now) (fields_in schema.now)))) }
+    ensures forms { IfOk result (λ plan. plan.forms.items ≡ forms_in plan.leaves.items) }
     ensures sources { IfOk result (λ plan.
         plan.sources.items ≡ map (place_in (leaves (opens wanted.now) (fields_in schema.now))) wanted.now) }
     ensures needed { IfOk result (λ plan. plan.needed.items

@@ -4,9 +4,12 @@ ghost use Rattle.std.specs.Prelude.{◌≡◌, [], ◌∷◌, ◌+◌, ◌<◌, 
 ghost use Rattle.fields.specs.Flat.{leaf_of, inner_leaf, leaves_if, leaves_of_field, leaves};
 ghost use Rattle.fields.specs.Wanted.{opens};
 ghost use Rattle.fields.specs.Kept.{kept, slots, slot_of, behind_slot};
+ghost use Rattle.fields.specs.Record.{IsTypeReadAs, IsReadAs, AreReadAs, AddsReadAs};
 
 use crate::empty::is_empty;
 use crate::wanted::{Wanted, opens};
+use cell_reading::form_of;
+use datum_reading::compacted;
 use lists::Copied;
 use schema_tree::{Field, Schema};
 use std::alloc::{AllocError, Global};
@@ -17,6 +20,7 @@ pub struct Leaf {
     /// The id of the field in which the record stands. None: there is none.
     pub parent: Option<i32>,
     pub id: Option<i32>,
+    /// Its type; if it holds no cells, its type without the fields that take no bytes.
     pub schema: Schema,
 }
 
@@ -106,7 +110,7 @@ fn push_inner<'s>(
 /// The fields whose values take bytes.
 #[tactic(auto, using(crate::proofs::FirstLemmas::kept_steps))]
 pub fn kept_of(alloc: Global, all: &[LentLeaf<'_>]) -> Result<Vec<Leaf>, AllocError>
-    ensures { IfOk result (λ found. found.items ≡ kept (map leaf_of all.now)) }
+    ensures { IfOk result (λ found. AreReadAs found.items (kept (map leaf_of all.now))) }
 {
     let mut found = Vec::new(alloc);
     for place in 0..all.len() {
@@ -118,8 +122,8 @@ pub fn kept_of(alloc: Global, all: &[LentLeaf<'_>]) -> Result<Vec<Leaf>, AllocEr
 /// Adds the field, if its values take bytes.
 #[tactic(auto, unfolding(crate::specs::Kept::kept))]
 fn push_kept(alloc: Global, found: &mut Vec<Leaf>, leaf: LentLeaf<'_>) -> Result<(), AllocError>
-    ensures { IfOk result (λ _. found.new.items
-        ≡ found.old.items ++ kept (leaf_of leaf.entry ∷ [])) }
+    ensures { IfOk result (λ _.
+        AddsReadAs found.old.items found.new.items (kept (leaf_of leaf.entry ∷ []))) }
 {
     if is_empty(leaf.schema) {
         return Ok(());
@@ -129,16 +133,31 @@ fn push_kept(alloc: Global, found: &mut Vec<Leaf>, leaf: LentLeaf<'_>) -> Result
     Ok(())
 }
 
-/// The leaf in memory of its own.
+/// The leaf in memory of its own. If its type holds no cells, it is passed over in each record, and
+/// so its fields that take no bytes are left out.
 fn own(alloc: Global, leaf: LentLeaf<'_>) -> Result<Leaf, AllocError>
-    ensures { IfOk result (λ owned. owned ≡ leaf_of leaf.entry) }
+    ensures { IfOk result (λ owned. IsReadAs owned (leaf_of leaf.entry)) }
 {
-    let schema = leaf.schema.copy(alloc)?;
     Ok(Leaf {
         parent: leaf.parent,
         id: leaf.id,
-        schema,
+        schema: own_type(alloc, leaf.schema)?,
     })
+}
+
+/// The type under which the values of the type are read, in memory of its own.
+fn own_type(alloc: Global, schema: &Schema) -> Result<Schema, AllocError>
+    ensures { IfOk result (λ owned. IsTypeReadAs owned schema.now) }
+{
+    if form_of(schema).is_some() {
+        return schema.copy(alloc);
+    }
+    let compact = compacted(alloc, schema)?;
+    // No type gets a form by what is left out. So this asks instead of a proof.
+    if form_of(&compact).is_some() {
+        return schema.copy(alloc);
+    }
+    Ok(compact)
 }
 
 /// For each field its place among those whose values take bytes, counted from 0.

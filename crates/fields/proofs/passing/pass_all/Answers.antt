@@ -3,6 +3,7 @@ use Rattle.words.specs.Reading.{map_value}
 use Rattle.datum_reading.specs.declared.cursor.Cursor.{Cursor}
 use Rattle.datum_reading.specs.Reading.{datum_at}
 use Rattle.fields.specs.Wanted.{fields_of, opens}
+use Rattle.fields.proofs.AlikeLaws.{fields_alike}
 use Rattle.fields.proofs.TakingLemmas.{record_as}
 use Rattle.fields.proofs.PassingLemmas.{needed_many, none_first}
 use Rattle.fields.proofs.passing.pass_all.Goals as goal
@@ -10,7 +11,8 @@ use Rattle.fields.proofs.passing.pass_all.Goals as goal
 pub returns-in-Rec-clause-exact : goal.returns-in-Rec-clause-exact
 returns-in-Rec-clause-exact c =
     let same = record_as (opens c.args.layout.now.wanted.items) c.args.layout.now.schema c.in-Rec.name c.in-Rec.fields c.args.input.now c.args.at c.in-Rec.is in
-    rw (same, ← c.requires.layout.leaves_are, ← c.deref.ensures.value, ← c.deref-in-Rec-2.ensures.value, ← c.behind_all.ensures) c.pass_fields.ensures.exact
+    let alike = fields_alike c.args.layout.now.leaves.items _ c.requires.layout.leaves_are c.args.input.now c.args.at in
+    rw (same, ← alike, ← c.deref.ensures.value, ← c.deref-in-Rec-2.ensures.value, ← c.behind_all.ensures) c.pass_fields.ensures.exact
 
 pub pass_fields-requires-clause-needed : goal.pass_fields-requires-clause-needed
 pass_fields-requires-clause-needed c =
