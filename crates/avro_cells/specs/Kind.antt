@@ -21,7 +21,7 @@ abbrev pub is_null : Level → Bool
 is_null Null = true
 is_null _ = false
 
--- whether null may stand there, and the type beside it
+-- whether null may be there, and the type beside it
 pub record Nullable : Type 0 where
   pub has_null : Bool
   pub type : Schema
@@ -97,7 +97,7 @@ long_kind StampMicros = kinds.Timestamp
 long_kind StampMicrosUtc = kinds.Timestamptz
 long_kind _ = kinds.Long
 
--- the kind of the cells that a type holds; None where it holds none
+-- the kind of the cells that a type holds; None if it holds none
 abbrev pub kind_of : Level → Option Kind
 kind_of Boolean = Some kinds.Boolean
 kind_of (Int logical) = Some (int_kind logical)

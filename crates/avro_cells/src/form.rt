@@ -36,7 +36,7 @@ pub fn form_of(schema: &Schema) -> Option<Form>
     })
 }
 
-/// The cell at the cursor, borrowed from the input, and the cursor behind it. Avro spec, "Unions".
+/// The cell at the cursor, borrowed from the input, and the cursor after it. Avro spec, "Unions".
 pub fn take_cell<'a>(
     form: Form,
     input: &'a [u8],

@@ -23,7 +23,7 @@ pub enum Primitive {
 /// How a field's type is read.
 #[derive(Drop)]
 pub struct CellType<'a> {
-    /// Whether null may stand there.
+    /// Whether null may be there.
     pub has_null: bool,
     /// The type alone, or the one beside null.
     pub schema: &'a Schema,

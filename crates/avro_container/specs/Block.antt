@@ -45,6 +45,6 @@ blocks_at (suc tries) sync block input place = if nat_le (length input) place th
   blocks ← blocks_at tries sync (block + 1) input frame.1
   Ok (block_of input frame.0 ∷ blocks))
 
--- the blocks behind those that were lent, of a framing that was checked
+-- the blocks after those that were returned, of a framing that was checked
 abbrev pub blocks_left : List ℕ → List ℕ → ℕ → ℕ → Result (List Block) ContainerRefusal
 blocks_left sync input lent place = blocks_at (length input - lent) sync (lent + 1) input place

@@ -20,7 +20,7 @@ container_at input = if nat_lt most_bytes (length input) then Err (Limit (length
   blocks ← blocks_at (length input) (slice_range input header.1 first) 1 input first
   Ok (record { meta = header.0; sync = slice_range input header.1 first; blocks = blocks }))
 
--- a container, and those of its blocks that were not lent yet
+-- a container, and those of its blocks that were not returned yet
 pub record Walked : Type 0 where
   pub whole : Container
   pub left : List Block

@@ -1,5 +1,5 @@
 -- The format itself: which bytes are the object container file of which container.
--- Avro 1.11, "Object Container Files". How a map stands in blocks is said in specs/Blocks.antt of avro_wire.
+-- Avro 1.11, "Object Container Files". specs/Blocks.antt of avro_wire says how a map is put into blocks.
 use Rattle.std.specs.Prelude.{◌≡◌, ℕ, ◌≤◌, pos, true, false, List, [], ◌∷◌, ◌++◌, length, All, IfSome, codes}
 use Rattle.std.specs.Str.{IsUtf8}
 use Rattle.words.specs.Grammar.{Joined}
@@ -17,7 +17,7 @@ SpellsPair pair bytes = Joined (SpellsBytes pair.0) (SpellsBytes pair.1) bytes
 abbrev pub SpellsMap : List Pair → List ℕ → Type 0
 SpellsMap pairs bytes = SpellsList SpellsPair pairs bytes
 
--- no key stands twice
+-- no key is a duplicate
 abbrev pub HasDistinctKeys : List Pair → Type 0
 HasDistinctKeys [] = Unit {0}
 HasDistinctKeys (pair ∷ pairs) = (has_key pairs pair.0 ≡ false) × HasDistinctKeys pairs

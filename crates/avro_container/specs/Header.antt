@@ -68,7 +68,7 @@ key_at pairs input place = do
       then Ok key
       else Err (Header place)
 
--- a pair, behind those before it
+-- a pair, after those before it
 unfoldable pub pair_at : List Pair → List ℕ → ℕ → Result (List Pair × ℕ) ContainerRefusal
 pair_at pairs input place = do
   key ← key_at pairs input place
@@ -125,7 +125,7 @@ checked (pairs, place) =
 unfoldable pub part_at : ℕ → List ℕ → ℕ → Result ℕ ContainerRefusal
 part_at count input place = if nat_lt (length input - place) count then Err (Short place) else Ok (place + count)
 
--- the pairs, and where the marker behind them begins
+-- the pairs, and where the marker after them begins
 unfoldable pub header_at : List ℕ → Result (List Pair × ℕ) ContainerRefusal
 header_at input = do
   start ← magic_at input

@@ -1,4 +1,4 @@
--- How a reader's refusals of numbers and lengths are named by the part of the file in which they stand.
+-- How a reader's refusals of numbers and lengths are named by the part of the file of the bytes.
 use Rattle.std.specs.Prelude.{ℕ, Bool, true, false}
 use Rattle.avro_wire.specs.declared.refusal.WireRefusal.{WireRefusal}
 use Rattle.avro_wire.specs.declared.refusal.WireRefusal.TheVariants as wire

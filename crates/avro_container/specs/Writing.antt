@@ -1,4 +1,4 @@
--- What is written: the file of a container, whose header's map stands in one block.
+-- What is written: the file of a container, whose header's map is in one block.
 -- Avro 1.11, "Object Container Files".
 use Rattle.std.specs.Prelude.{◌≡◌, ℕ, ◌≤◌, pos, ◌≤ℤ◌, true, List, ◌++◌, length, All, IfSome, codes}
 use Rattle.std.specs.List.{flat_map}

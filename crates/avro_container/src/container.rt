@@ -27,12 +27,12 @@ pub struct Block {
 #[derive(Drop)]
 pub struct Container {
     pub meta: Meta,
-    /// The marker that stands behind the header and behind each block.
+    /// The marker after the header and after each block.
     pub sync: [u8; 16],
     pub blocks: Blocks,
 }
 
-/// What the key is bound to in a header; None where no pair has it.
+/// What the key is bound to in a header; None if no pair has it.
 pub fn bound_to<'a>(meta: &'a Meta, key: &str) -> Option<&'a [u8]>
     ensures { option_copied result ≡ value_of meta.now key.now }
 {

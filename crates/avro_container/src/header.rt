@@ -167,7 +167,7 @@ fn take_sized<'a>(
     Ok(after)
 }
 
-/// Whether so many pairs more are too many.
+/// Whether `count` pairs more are too many.
 fn are_too_many(pairs: &Pairs<'_>, count: u64) -> bool
     ensures { result ≡ nat_lt most_pairs (length pairs.now.pairs + count) }
 {
@@ -175,7 +175,7 @@ fn are_too_many(pairs: &Pairs<'_>, count: u64) -> bool
     before > MOST_PAIRS || count > MOST_PAIRS - before
 }
 
-/// So many pairs behind those before them: the place after them.
+/// `count` more pairs, and the place after them.
 fn take_pairs<'a>(
     pairs: &mut Pairs<'a>,
     count: u64,
@@ -196,7 +196,7 @@ fn take_pairs<'a>(
     Ok(at)
 }
 
-/// A pair behind those before it: the place after it.
+/// One more pair, and the place after it.
 #[tactic(auto, unfolding(crate::specs::Header::pair_at, crate::specs::Header::key_at))]
 fn take_pair<'a>(
     pairs: &mut Pairs<'a>,

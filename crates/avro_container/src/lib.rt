@@ -7,7 +7,7 @@
 //! | `pairs` | the pairs of a header, kept as places in the input, with distinct keys |
 //! | `header` | reading the magic bytes and the header's map |
 //! | `block` | reading one block |
-//! | `walk` | the whole framing checked, and its blocks lent one after the other |
+//! | `walk` | the whole framing checked, and its blocks returned one after the other |
 //! | `reading` | a container as plain data, from its bytes |
 //! | `writing` | the bytes of a container |
 #![tactic(auto)]

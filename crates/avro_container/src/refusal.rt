@@ -18,7 +18,7 @@ pub enum ContainerRefusal {
     /// The first bytes are not those of a container.
     Magic,
     /// A number of the header's map, or the length of a key or a value, is none; a block's size is
-    /// untrue, or its count too large; a key is no text, or stands twice; or `avro.schema` is absent.
+    /// untrue, or its count too large; a key is no text, or is a duplicate; or `avro.schema` is absent.
     /// `place` is where the number or length begins; for an absent schema it is where the marker
     /// begins.
     Header { place: u64 },
@@ -30,7 +30,7 @@ pub enum ContainerRefusal {
     Form { block: u64 },
     /// The block's marker differs from the header's.
     Sync { block: u64 },
-    /// There was no memory.
+    /// Memory ran out.
     Memory,
 }
 

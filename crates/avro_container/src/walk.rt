@@ -1,4 +1,4 @@
-//! The whole framing of a file checked, and its blocks lent one after the other.
+//! The whole framing of a file checked, and its blocks returned one after the other.
 
 ghost use Rattle.std.specs.Prelude.{◌≡◌, ℕ, ◌≤◌, List, [], ◌∷◌, length, IfNone, IfOk, Ok, MatchOption};
 ghost use Rattle.std.specs.Option.{option_copied};
@@ -21,7 +21,7 @@ use std::marker::Model;
 /// The most bytes of a file.
 const MOST_BYTES: u64 = 67_108_864;
 
-/// The blocks of a container, lent one after the other from bytes whose framing was checked whole.
+/// The blocks of a container, borrowed one after the other from bytes whose framing was checked whole.
 /// Contracts see the whole container, and those of its blocks that are left.
 #[derive(Drop)]
 pub struct Walk<'a> {
@@ -33,7 +33,7 @@ pub struct Walk<'a> {
     first: usize,
     /// Where the next block begins.
     place: usize,
-    /// How many blocks were lent.
+    /// How many blocks were returned.
     lent: usize,
 }
 
@@ -75,7 +75,7 @@ impl<'a> Walk<'a> {
         self.sync
     }
 
-    /// The next block: how many objects it has, and their bytes. None where no block is left.
+    /// The next block: how many objects it has, and their bytes. None if no block is left.
     pub fn next(&mut self) -> Option<(i64, &'a [u8])>
         ensures value { MatchOption result (self.old.left ≡ [])
             (λ block. self.old.left
@@ -105,7 +105,7 @@ impl<'a> Walk<'a> {
     }
 }
 
-/// Checks the whole framing of the bytes: the container is there, and its blocks can be lent.
+/// Checks the whole framing of the bytes: the container is there, and its blocks can be returned.
 /// Avro spec, "Object Container Files".
 pub fn open_walk(alloc: Global, input: &[u8]) -> Result<Walk<'_>, ContainerRefusal>
     // The bytes are the file of the container, and each file within the limit is opened.
@@ -122,7 +122,7 @@ pub fn open_walk(alloc: Global, input: &[u8]) -> Result<Walk<'_>, ContainerRefus
     walk_of(alloc, input)
 }
 
-/// A law and no code: what the bytes read as is the container whose file they are, and a container
+/// A law, without code: what the bytes read as is the container whose file they are, and a container
 /// whose file is within the limit is what its file reads as.
 pub fn reading_agrees()
     ensures found { (input : List ℕ) (container : Container)

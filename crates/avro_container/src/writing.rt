@@ -45,7 +45,7 @@ fn put_map(out: &mut Vec<u8>, pairs: &[(Text, Bytes)]) -> Result<(), AllocError>
     put_long(out, 0)
 }
 
-/// Puts the pairs, one behind the other. Keys are text.
+/// Puts the pairs, in order. Keys are text.
 fn put_pairs(out: &mut Vec<u8>, pairs: &[(Text, Bytes)]) -> Result<(), AllocError>
     ensures ok { OnOk result (out.new.items ≡ out.old.items ++ flat_map pair_text pairs.now) }
     ensures texts { OnOk result (All HasTextKey pairs.now) }
@@ -65,7 +65,7 @@ fn put_pair(out: &mut Vec<u8>, pair: &(Text, Bytes)) -> Result<(), AllocError>
     put_bytes(out, pair.1.as_slice())
 }
 
-/// Puts the blocks, one behind the other. Counts are numbers of 64 bits.
+/// Puts the blocks, in order. Counts are numbers of 64 bits.
 fn put_blocks(out: &mut Vec<u8>, sync: &[u8; 16], blocks: &[Block]) -> Result<(), AllocError>
     ensures ok { OnOk result
         (out.new.items ≡ out.old.items ++ flat_map (block_text sync.now) blocks.now) }
@@ -77,7 +77,7 @@ fn put_blocks(out: &mut Vec<u8>, sync: &[u8; 16], blocks: &[Block]) -> Result<()
     Ok(())
 }
 
-/// Puts a block: its count, its bytes behind their number, and the marker. The count is a number
+/// Puts a block: its count, its bytes after their number, and the marker. The count is a number
 /// of 64 bits.
 fn put_block(out: &mut Vec<u8>, sync: &[u8; 16], block: &Block) -> Result<(), AllocError>
     ensures ok { OnOk result (out.new.items ≡ out.old.items ++ block_text sync.now block.now) }

@@ -11,7 +11,7 @@ use Rattle.schema_tree.specs.declared.schema.Schema.{Schema}
 abbrev pub Definitions : Type 0
 Definitions = List (List ℕ × Option Schema)
 
--- what is known of the name: None where it is not taken
+-- what is known of the name: None if it is not taken
 abbrev pub known_as : Definitions → List ℕ → Option (Option Schema)
 known_as names name = lookup (bytes_eq name) names
 

@@ -104,7 +104,7 @@ mutual
         → AreBranches scope between values branches after
         → AreBranches scope names (value ∷ values) (schema ∷ branches) after
 
-  -- the values are fields behind others, no two of one name; each is met where those before it were
+  -- the values are fields after others, no two of one name; each is met where those before it were
   pub data AreFields : List ℕ → Definitions → List Field → List Data → List Field → Definitions → Type 0 where
     no_field : (scope : List ℕ) (names : Definitions) (before : List Field)
         → AreFields scope names before [] before names

@@ -88,7 +88,7 @@ id_of key (Some value) = map_value Some (or_form key (int_of value))
 abbrev pub id_at : List ℕ → Members → Result (Option ℤ) SchemaRefusal
 id_at key members = id_of key (get_member key members)
 
--- a member that tells something by a text, or that is passed over
+-- a member that tells something by a text, or that is ignored
 abbrev pub is_text : Option Data → List ℕ → Bool
 is_text None word = false
 is_text (Some value) word = is_this (text_of value) word

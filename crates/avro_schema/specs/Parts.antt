@@ -14,7 +14,7 @@ unfoldable pub schema_below : ℕ → Reader
 schema_below zero = no_schema
 schema_below (suc room) = schema_at room
 
--- the name of a field behind others
+-- the name of a field after others
 abbrev pub field_name_at : List Field → Members → Result (List ℕ) SchemaRefusal
 field_name_at before members = text_at (codes "name") members >>= new_field_name before
 

@@ -26,7 +26,7 @@ abbrev pub is_avro_name : List ℕ → Bool
 is_avro_name [] = false
 is_avro_name (byte ∷ rest) = begins_name byte && list_all goes_on_name rest
 
--- no name stands twice
+-- no name is a duplicate
 abbrev pub are_distinct : List (List ℕ) → Bool
 are_distinct [] = true
 are_distinct (name ∷ names) = not (list_any (bytes_eq name) names) && are_distinct names

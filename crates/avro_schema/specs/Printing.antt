@@ -28,11 +28,11 @@ other tokens = record { tokens = tokens; is_null = false; begins_with_null = fal
 abbrev pub text_member : List ℕ → List ℕ → List Token
 text_member name text = key name ∷ string text ∷ []
 
--- a member that is a truth value
+-- a member that is a boolean
 abbrev pub flag_member : List ℕ → Bool → List Token
 flag_member name flag = key name ∷ boolean flag ∷ []
 
--- an id, which is left out with its member where there is none
+-- an id, which is left out with its member if there is none
 abbrev pub id_member : List ℕ → Option ℤ → List Token
 id_member name None = []
 id_member name (Some id) = key name ∷ number (signed_decimal id) ∷ []
@@ -93,7 +93,7 @@ abbrev pub null_is_first : List Written → Bool
 null_is_first [] = false
 null_is_first (branch ∷ branches) = branch.is_null
 
--- the tokens of schemas, one behind the other
+-- the tokens of schemas, in order
 abbrev pub all_tokens : List Written → List Token
 all_tokens parts = flat_map (λ part. part.tokens) parts
 

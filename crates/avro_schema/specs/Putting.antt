@@ -7,7 +7,7 @@ use Rattle.schema_tree.specs.declared.schema.Schema.TheFolds.{fold-Field}
 use Rattle.schema_tree.specs.declared.schema.Field.{Field}
 use Rattle.avro_schema.specs.Printing.{Written, written_of, written_field, written, all_tokens}
 
--- the tokens stand behind those that were there, and nothing else has changed
+-- the tokens stand after those that were there, and nothing else has changed
 abbrev pub Puts : {E : Type 0} → Result (Unit {0}) E → json.Written → json.Written → List Token → Type 0
 Puts result old new tokens = OnOk result ((new.before ≡ old.before) × (new.tokens ≡ old.tokens ++ tokens))
 

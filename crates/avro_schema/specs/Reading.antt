@@ -79,7 +79,7 @@ counted room levels many seen =
 abbrev pub Reader : Type 0
 Reader = List ℕ → Seen → Data → Result (Schema × Seen) SchemaRefusal
 
--- a name that was defined; its schema stands in its place
+-- a name that was defined; its schema is in its place
 abbrev pub use_of : ℕ → List ℕ → Seen → Option (Option Schema) → Result (Schema × Seen) SchemaRefusal
 use_of room name seen None = Err (Unknown name)
 use_of room name seen (Some None) = Err (Unknown name)
@@ -91,7 +91,7 @@ abbrev pub word_at : ℕ → List ℕ → Seen → List ℕ → Option Schema �
 word_at room scope seen word (Some primitive) = map_value (λ after. (primitive, after)) (counted room 1 1 seen)
 word_at room scope seen word None = use_of room word seen (known_as seen.names (full_name scope word))
 
--- the namespace that a definition names, or the one that it stands in
+-- the namespace that a definition names, or the one that it is in
 abbrev pub scope_of : List ℕ → Option (Option (List ℕ)) → List ℕ
 scope_of scope None = scope
 scope_of scope (Some None) = scope
@@ -129,7 +129,7 @@ has_field fields name = list_any (λ (field : Field). bytes_eq (out-Field field)
 abbrev pub new_field_name : List Field → List ℕ → Result (List ℕ) SchemaRefusal
 new_field_name before name = if has_field before name then Err (Form (codes "name")) else Ok name
 
--- a field behind others
+-- a field after others
 abbrev pub field_at : (Seen → Data → Result (Schema × Seen) SchemaRefusal) → List Field → Seen → Data
     → Result (Field × Seen) SchemaRefusal
 field_at schema_in before seen null = Err (Form [])
@@ -155,7 +155,7 @@ branch_at schema_in seen (number num) = schema_in seen (number num)
 branch_at schema_in seen (string text) = schema_in seen (string text)
 branch_at schema_in seen (object members) = schema_in seen (object members)
 
--- fields behind others; the place of the first one in the list, from 1
+-- fields after others; the place of the first one in the list, from 1
 unfoldable pub fields_at : (Seen → Data → Result (Schema × Seen) SchemaRefusal) → ℕ → List Field → Seen → List Data
     → Result (List Field × Seen) SchemaRefusal
 fields_at schema_in place before seen [] = Ok (before, seen)
@@ -163,13 +163,13 @@ fields_at schema_in place before seen (value ∷ values) =
     under (decimal place) (field_at schema_in before seen value) >>= λ field.
     fields_at schema_in (place + 1) (before ++ field.0 ∷ []) field.1 values
 
--- the texts of a list, behind others; the place of the first one in the list, from 1
+-- the texts of a list, after others; the place of the first one in the list, from 1
 unfoldable pub texts_at : ℕ → List (List ℕ) → List Data → Result (List (List ℕ)) SchemaRefusal
 texts_at place before [] = Ok before
 texts_at place before (value ∷ values) =
     or_form (decimal place) (text_of value) >>= λ text. texts_at (place + 1) (before ++ text ∷ []) values
 
--- the branches of a union, behind others; none of them is a union
+-- the branches of a union, after others; none of them is a union
 unfoldable pub branches_at : (Seen → Data → Result (Schema × Seen) SchemaRefusal) → ℕ → List Schema → Seen → List Data
     → Result (List Schema × Seen) SchemaRefusal
 branches_at schema_in place before seen [] = Ok (before, seen)
@@ -270,7 +270,7 @@ schema_at (suc room) = layer_at (schema_at room) (suc room)
 abbrev pub schema_of_value : Data → Result Schema SchemaRefusal
 schema_of_value value = map_value (λ read. read.0) (schema_at 64 [] nothing_seen value)
 
--- the schema of a JSON text, where it is one
+-- the schema of a JSON text, if it is one
 abbrev pub schema_of_json : Option Data → Result Schema SchemaRefusal
 schema_of_json None = Err NotJson
 schema_of_json (Some value) = schema_of_value value

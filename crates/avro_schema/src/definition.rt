@@ -32,7 +32,7 @@ fn namespace_at(members: &Members) -> Option<Option<&str>>
     }
 }
 
-/// The namespace that a definition names, or the one that it stands in.
+/// The namespace that a definition names, or the one that it is in.
 fn scope_of<'v>(scope: &'v str, namespace: Option<Option<&'v str>>) -> &'v str
     ensures { result.now
         ≡ spec.scope_of scope.now (option_map (option_map (λ text. text.now)) namespace.entry) }

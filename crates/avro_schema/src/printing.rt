@@ -176,7 +176,7 @@ fn begin_field(out: &mut Writer, name: &str) -> Result<(), AllocError>
     out.key("type")
 }
 
-/// What stands behind a field's type. `null`: it may be null first.
+/// What follows a field's type. `null`: it may be null first.
 fn end_field(out: &mut Writer, null: bool, id: Option<i32>) -> Result<(), AllocError>
     ensures tokens { Puts result out.old out.new
         (default_member null ++ id_member (codes "field-id") id) }

@@ -34,7 +34,7 @@ const LEVELS: usize = 65;
 /// is no schema: the members of an object in the order of their bytes, all of them before what any
 /// of them holds, and a list's first item with all that it holds before the second one. At one place
 /// `Form` comes before `Unknown`, and that before `Nesting`. Members that say nothing of a schema are
-/// passed over. docs/FORMATS.md, "Avro schemas".
+/// ignored. docs/FORMATS.md, "Avro schemas".
 #[tactic(auto, using(crate::proofs::MeansText::answers))]
 pub fn read_schema(alloc: Global, text: &[u8]) -> Result<Schema, SchemaRefusal>
     ensures exact { Gives is_memory (λ schema. schema) result (spec.schema_of text.now) }
@@ -74,7 +74,7 @@ fn word_of(
     seen.take_use(alloc, room, word, name.as_str())
 }
 
-/// The name of a field behind others.
+/// The name of a field after others.
 fn field_name(
     alloc: Global,
     members: &Members,
@@ -110,7 +110,7 @@ fn piece_of(
     under(alloc, key, schema_of(alloc, value, scope, room, seen))
 }
 
-/// A field behind others.
+/// A field after others.
 #[cycle(read)]
 fn field_of(
     alloc: Global,

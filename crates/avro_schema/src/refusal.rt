@@ -28,7 +28,7 @@ pub enum SchemaRefusal {
     /// The schema is deeper than 64, or has more than 65,536 schemas in it, once each name is
     /// replaced by what it was defined as.
     Nesting,
-    /// There was no memory.
+    /// Memory ran out.
     Memory,
 }
 

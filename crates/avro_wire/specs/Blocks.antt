@@ -1,4 +1,4 @@
--- Bytes behind their length, and items in blocks, as arrays, maps and strings have them.
+-- Bytes after their length, and items in blocks, as arrays, maps and strings have them.
 -- Avro 1.11, "Binary encoding": "Primitive types", "Arrays", "Maps".
 use Rattle.std.specs.Prelude.{◌≡◌, ℕ, ◌+◌, ◌<◌, ◌⊎◌, pos, negsuc, List, [], ◌∷◌, ◌++◌, length}
 use Rattle.std.specs.List.{flat_map}
@@ -9,7 +9,7 @@ use Rattle.avro_wire.specs.Number.{long, SpellsNumber}
 abbrev pub SpellsBytes : List ℕ → List ℕ → Type 0
 SpellsBytes value bytes = Joined (λ front. SpellsNumber long front (pos (length value))) (λ rest. rest ≡ value) bytes
 
--- items, one behind the other
+-- items, in order
 abbrev pub SpellsItems : {A : Type 0} → (A → List ℕ → Type 0) → List A → List ℕ → Type 0
 SpellsItems SpellsItem [] bytes = bytes ≡ []
 SpellsItems SpellsItem (item ∷ items) bytes = Joined (SpellsItem item) (SpellsItems SpellsItem items) bytes

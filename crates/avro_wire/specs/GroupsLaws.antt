@@ -19,7 +19,7 @@ pub groups_cons : (b : ℕ) (bytes : List ℕ) → 128 ≤ b → IsGroups bytes 
 groups_cons b [] high groups = absurd groups
 groups_cons b (c ∷ bytes) high groups = (high, groups)
 
--- the bytes with the high bit and the one behind them are groups
+-- the bytes with the high bit and the one after them are groups
 pub groups_front : (rest : List ℕ) → prefix_len has_high_bit rest < length rest
     → IsGroups (take (prefix_len has_high_bit rest + 1) rest)
 groups_front [] inside = absurd (omega arith)

@@ -15,7 +15,7 @@ has_high_bit b = nat_le 128 b
 abbrev pub high_bytes : List ℕ → ℕ → ℕ
 high_bytes input place = prefix_len has_high_bit (drop place input)
 
--- the bytes of the number at the place: those with the high bit, and the one behind them
+-- the bytes of the number at the place: those with the high bit, and the one after them
 abbrev pub number_bytes : List ℕ → ℕ → List ℕ
 number_bytes input place = take (high_bytes input place + 1) (drop place input)
 
@@ -33,7 +33,7 @@ number_at bounds input place = do
   groups ← groups_at bounds input place
   Ok (unzigzag groups.0, groups.1)
 
--- what lies behind a length: where it starts and where it ends
+-- what lies after a length: where it starts and where it ends
 abbrev pub range_behind : ℕ → List ℕ → ℤ × ℕ → Result (ℕ × ℕ) WireRefusal
 range_behind place input (pos n, start) =
     if nat_lt (length input - start) n then Err (Short place) else Ok (start, start + n)

@@ -1,4 +1,4 @@
--- What is read if the relation says what stands at a place, and what can stand there.
+-- What is read if the relation says what stands at a place, and what can be there.
 use Rattle.std.proofs.Common.{◌≡◌, ℕ, ◌+◌, ◌-◌, ◌≤◌, ℤ, pos, true, false, List, ◌++◌, ◌⊎◌, length, take, drop, All}
 use Rattle.std.proofs.Common.{Ok, Err, nat_le, nat_lt, inl, inr, refl, sym, ap, subst, ◌∙◌, arith}
 use Rattle.std.specs.List.{prefix_len}
@@ -73,7 +73,7 @@ number_long bounds input place long =
           rw (front.few, front.inside, front.bytes_are, big) refl
     ]
 
--- a number stands there, or the input ends inside one, or what stands there is too long for one
+-- a number is there, or the input ends inside one, or what is there is too long for one
 pub front_cases : (bounds : Bounds) (rest : List ℕ)
     → BeginsWith bounds rest Anything ⊎ (EndsInside bounds rest ⊎ IsTooLong bounds rest)
 front_cases bounds rest =
@@ -115,7 +115,7 @@ front_cases bounds rest =
       })))
     ]
 
--- ---- bytes behind their length
+-- ---- bytes after their length
 
 -- so many bytes follow the number at the front
 pub left_behind : (input : List ℕ) (place : ℕ) (bytes after : List ℕ)
@@ -124,7 +124,7 @@ left_behind input place bytes after parts =
     let whole : length (drop place input) ≡ length bytes + length after = ap length parts ∙ length-append bytes after in
     omega (arith, length-drop place input)
 
--- bytes behind their length are found, whatever follows
+-- bytes after their length are found, whatever follows
 pub bytes_again : (input : List ℕ) (place : ℕ) (bytes after : List ℕ) (size : ℕ)
     → drop place input ≡ bytes ++ after → SpellsNumber long bytes (pos size) → size ≤ length after
     → bytes_at input place ≡ Ok (place + length bytes, place + length bytes + size)

@@ -1,4 +1,4 @@
--- What is read of a number, and of a block that tells its size, is spelled so.
+-- What is read of a number, and of a block that tells its size, is encoded so.
 use Rattle.std.proofs.Common.{◌≡◌, ℕ, suc, ◌+◌, ◌-◌, ℤ, pos, negsuc, List, ◌++◌, length, drop, Ok, inl, inr, ap}
 use Rattle.std.proofs.Common.{subst, ◌∙◌, arith}
 use Rattle.words.specs.Grammar.{Joined}
@@ -8,7 +8,7 @@ use Rattle.avro_wire.specs.Reading.{number_at}
 use Rattle.avro_wire.specs.ReadingLaws.{front_cases, number_again, number_short, number_long}
 use Rattle.avro_wire.specs.Blocks.{SpellsItems, IsSized}
 
--- a number that is read is spelled so
+-- a number that is read is encoded so
 pub number_took : (bounds : Bounds) (input : List ℕ) (place : ℕ) (taken : ℤ × ℕ)
     → number_at bounds input place ≡ Ok taken
     → Took input place taken.1 (λ bytes. SpellsNumber bounds bytes taken.0)

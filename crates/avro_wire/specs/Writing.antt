@@ -1,4 +1,4 @@
--- What the puts put: the fewest bytes that spell a number, and bytes behind their length.
+-- What the puts put: the fewest bytes that spell a number, and bytes after their length.
 -- Avro 1.11, "Binary encoding", "Primitive types": int, long and bytes.
 use Rattle.std.specs.List.{flat_map}
 use Rattle.std.specs.Prelude.{ℕ, zero, suc, ◌+◌, ◌*◌, ◌/◌, ◌%◌, ℤ, pos, negsuc, List, [], ◌∷◌, ◌++◌, length, nat_lt}

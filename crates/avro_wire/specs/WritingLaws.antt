@@ -60,7 +60,7 @@ int_spelled value low high =
 pub count_spelled : (n : ℕ) → n < 2 ^ 63 → SpellsNumber long (number_text (pos n)) (pos n)
 count_spelled n below = long_spelled (pos n) (search (arith, ints)) (omega (arith, ints))
 
--- ---- bytes behind their length, and lists in one block
+-- ---- bytes after their length, and lists in one block
 
 -- bytes that are few enough are spelled by their text
 pub bytes_spelled : (value : List ℕ) → length value < 2 ^ 63 → SpellsBytes value (bytes_text value)

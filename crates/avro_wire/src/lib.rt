@@ -1,4 +1,4 @@
-//! Avro's numbers, bytes and texts as they stand in a file.
+//! Avro's numbers, bytes and texts as they are in a file.
 //!
 //! | Module | What it has |
 //! |---|---|
@@ -6,7 +6,7 @@
 //! | `utf8` | the test of bytes for text |
 //! | `refusal` | why an item can't be taken |
 //! | `reading` | the takes: an item at a place, and the place after it |
-//! | `writing` | the puts: an item behind the bytes that are there |
+//! | `writing` | the puts: an item after the bytes that are there |
 #![tactic(auto)]
 
 mod bytes;

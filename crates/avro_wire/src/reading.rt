@@ -16,7 +16,7 @@ const INT_BYTES: usize = 5;
 /// The largest value of an int's groups.
 const INT_LARGEST: u64 = 4_294_967_295;
 
-/// The number of 64 bits at `place`, a count of bytes from 0, and the place after it.
+/// The number of 64 bits at `place`, a byte offset from 0, and the place after it.
 /// `Short`: the input ends inside the number.
 /// `TooLong`: the number takes more than ten bytes, or its value doesn't fit 64 bits.
 /// Avro spec, "Binary encoding".
@@ -38,7 +38,7 @@ pub fn take_long(input: &[u8], place: usize) -> Result<(i64, usize), WireRefusal
     long_at(input, place)
 }
 
-/// The number of 32 bits at `place`, a count of bytes from 0, and the place after it.
+/// The number of 32 bits at `place`, a byte offset from 0, and the place after it.
 /// `Short`: the input ends inside the number.
 /// `TooLong`: the number takes more than five bytes, or its value doesn't fit 32 bits.
 /// Avro spec, "Binary encoding".
@@ -60,7 +60,7 @@ pub fn take_int(input: &[u8], place: usize) -> Result<(i32, usize), WireRefusal>
     int_at(input, place)
 }
 
-/// Where the bytes behind the length at `place` start, and where they end, counted in bytes from 0.
+/// Where the bytes after the length at `place` start, and where they end, counted in bytes from 0.
 /// `Short`: the input ends inside the length, or before the last byte that it promises.
 /// `TooLong`: the length is no number of 64 bits, or is negative.
 /// Avro spec, "Binary encoding".
@@ -84,8 +84,8 @@ pub fn take_bytes(input: &[u8], place: usize) -> Result<(usize, usize), WireRefu
     range_at(input, place)
 }
 
-/// A law and no code: two spellings of numbers at the front of one list are the same bytes and the
-/// same number, so that none is the front of another.
+/// A law, without code: two encodings of numbers at the beginning of one list are the same bytes and the
+/// same number, so that none is a proper prefix of another.
 pub fn no_prefix()
     ensures { (bounds : Bounds) (a b x y : List ℕ) (m n : ℤ)
         → SpellsNumber bounds a m → SpellsNumber bounds b n

@@ -1,4 +1,4 @@
-//! The puts: an item behind the bytes that are there.
+//! The puts: an item after the bytes that are there.
 
 ghost use Rattle.std.specs.Prelude.{◌≡◌, ℕ, ◌+◌, ◌<◌, ◌≤◌, ◌^◌, ℤ, pos, neg_ℤ, ◌<ℤ◌, ◌≤ℤ◌, List, ◌++◌, length, take, drop, slice_range, Ok, OnOk, OnErr};
 ghost use Rattle.avro_wire.specs.Number.{long, int, SpellsNumber};
@@ -8,7 +8,7 @@ ghost use Rattle.avro_wire.specs.Writing.{number_text, size_text, bytes_text};
 
 use std::alloc::AllocError;
 
-/// Puts the number behind `out`, in the fewest bytes that spell it. An `Err` says that memory ran
+/// Appends the number to `out`, in the fewest bytes that encode it. An `Err` says that memory ran
 /// out. Avro spec, "Binary encoding".
 pub fn put_long(out: &mut Vec<u8>, value: i64) -> Result<(), AllocError>
     ensures ok { OnOk result (out.new.items ≡ out.old.items ++ number_text value) }
@@ -22,7 +22,7 @@ pub fn put_long(out: &mut Vec<u8>, value: i64) -> Result<(), AllocError>
     out.extend_from_slice(&groups[..count])
 }
 
-/// Puts how many the bytes are and then the bytes behind `out`. An `Err` says that memory ran out.
+/// Appends the length of the bytes and the bytes to `out`. An `Err` says that memory ran out.
 /// Avro spec, "Binary encoding".
 pub fn put_bytes(out: &mut Vec<u8>, value: &[u8]) -> Result<(), AllocError>
     ensures ok { OnOk result (out.new.items ≡ out.old.items ++ bytes_text value.now) }
@@ -37,7 +37,7 @@ pub fn put_bytes(out: &mut Vec<u8>, value: &[u8]) -> Result<(), AllocError>
     Ok(())
 }
 
-/// A law and no code: what is put is read, whatever follows it, and the take ends behind it.
+/// A law, without code: what is put is read, whatever follows it, and the take ends after it.
 pub fn reads_back()
     ensures longs { (input : List ℕ) (place : ℕ) (rest : List ℕ) (value : ℤ)
         → drop place input ≡ number_text value ++ rest

@@ -1,4 +1,4 @@
-//! A text as it stands between quotes, in blocks of eight bytes.
+//! A text as it is written between quotes, in blocks of eight bytes.
 
 ghost use Rattle.std.specs.Prelude.{◌≡◌, ◌==◌, ℕ, ◌+◌, ◌*◌, ◌<◌, ◌≤◌, false, [], ◌∷◌, ◌++◌, length, take, slice_index};
 ghost use Rattle.std.specs.Bool.{OnTrue};
@@ -8,7 +8,7 @@ ghost use Rattle.pieces.specs.Literal.{escape as escape_of};
 use crate::piece::put_piece;
 use std::simd::prelude::*;
 
-/// Puts the text as it stands between quotes at the place `at`, without the quotes, and returns
+/// Puts the text as it is written between quotes at the place `at`, without the quotes, and returns
 /// the place after it. A part of a text has a part of its text, so a long one may be put in parts.
 pub fn put_escaped(room: &mut [u8], at: usize, text: &[u8]) -> usize
     requires fits { at + 2 * length text.now ≤ length room.old }
@@ -60,7 +60,7 @@ fn lacks(text: &[u8], at: usize, byte: u8) -> bool
     true
 }
 
-/// Puts the byte as it stands between quotes.
+/// Puts the byte as it is written between quotes.
 #[inline(always)]
 fn put_byte(room: &mut [u8], at: usize, byte: u8) -> usize
     requires { at + 2 ≤ length room.old }

@@ -3,10 +3,10 @@
 //! | Module | What it puts |
 //! |---|---|
 //! | `piece` | bytes as they are, and numbers in decimal |
-//! | `escape` | a text as it stands between quotes |
+//! | `escape` | a text as it is written between quotes |
 //! | `digits` | bytes as hexadecimal digits |
 //! | `cell` | a cell |
-//! | `text` | a cell, behind a string |
+//! | `text` | a cell, after a string |
 #![tactic(auto)]
 
 mod cell;

@@ -12,7 +12,7 @@ use crate::cell::{most_bytes, put_cell};
 use row_types::CellRef;
 use std::alloc::{AllocError, Global};
 
-/// Puts the text of the cell behind `out`. An `Err` says that memory ran out.
+/// Appends the text of the cell to `out`. An `Err` says that memory ran out.
 pub fn push_cell(out: &mut String, cell: CellRef<'_>) -> Result<(), AllocError>
     ensures { OnOk result (string_bytes out.new
         ≡ string_bytes out.old ++ cell_text (lent_cell cell.entry)) }
@@ -21,7 +21,7 @@ pub fn push_cell(out: &mut String, cell: CellRef<'_>) -> Result<(), AllocError>
     push_by(out, &mut room, cell)
 }
 
-/// So many zero bytes.
+/// `count` zero bytes.
 fn zeros(alloc: Global, count: usize) -> Result<Vec<u8>, AllocError>
     ensures { IfOk result (λ room. length room.items ≡ count) }
 {

@@ -1,4 +1,4 @@
--- Readers that agree with a relation: what they read is spelled so, and what is spelled so they read.
+-- Readers that agree with a relation: what they read is encoded so, and what is encoded so they read.
 -- Each reader counts items of arrays and maps, of which there may only be so many.
 use Rattle.std.proofs.Common.{◌≡◌, ℕ, ◌+◌, ◌≤◌, List, ◌++◌, length, Ok, refl, sym, ap, ap₂, ◌∙◌, subst, arith}
 use Rattle.words.specs.Reading.{◌>>=◌, map_value}
@@ -9,7 +9,7 @@ use Rattle.datum_reading.specs.Reading.{Reads}
 use Rattle.words.specs.Parts.{Stand, Took, stand_first, stand_second, took_then, took_as}
 use Rattle.words.specs.Steps.{bind_ok, value_ok}
 
--- the cursor stood before bytes and stands behind them, and so many items more are counted, which are not too many
+-- the cursor stood before bytes and stands after them, and so many items more are counted, which are not too many
 pub record Passes (input : List ℕ) (at after : Cursor) (bytes : List ℕ) (many : ℕ) : Type 0 where
   pub stand : Stand input at.place after.place bytes
   pub counts : after.items ≡ at.items + many

@@ -1,4 +1,4 @@
--- What stands before the items of a block and what has to be true behind them, and blocks put together of these.
+-- What comes before the items of a block and what has to be true after them, and blocks put together of these.
 -- Avro 1.11, "Arrays", "Maps".
 use Rattle.std.specs.Prelude.{ℕ, suc, ◌-◌, ◌==◌, ℤ, pos, negsuc, List, Option, Some, None, Result, Ok, Err}
 use Rattle.std.specs.Prelude.{if◌then◌else◌}
@@ -34,12 +34,12 @@ head_of place input (negsuc count, at) = sized_head place (suc count) input at
 unfoldable pub head_at : List ℕ → Cursor → Result BlockHead DatumRefusal
 head_at input at = number_from long input at >>= head_of at.place input
 
--- the size that is told is that of the items between the places
+-- the size that is reported is that of the items between the places
 abbrev pub sized_so : Option BlockSize → ℕ → Cursor → Result Cursor DatumRefusal
 sized_so None first after = Ok after
 sized_so (Some size) first after =
     if is_natural size.bytes (after.place - first) then Ok after else Err (Size size.place)
 
--- the cursor behind the block's items, where the size that is told is theirs
+-- the cursor after the block's items, where the size that is reported is theirs
 abbrev pub closed_at : BlockHead → Cursor → Result Cursor DatumRefusal
 closed_at head after = sized_so head.size head.first.place after

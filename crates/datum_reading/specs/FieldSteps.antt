@@ -14,12 +14,12 @@ use Rattle.datum_reading.specs.Readers.{readers_of}
 abbrev Answer : Type 0
 Answer = Result (List Datum × Cursor) DatumRefusal
 
--- what the fields behind one read, once that one is read
+-- what the fields after one read, once that one is read
 abbrev behind_field : List Field → ℕ → List Datum → List ℕ → Datum × Cursor → Answer
 behind_field fields i before input read =
     fields_at (readers_of (drop (i + 1) fields)) (before ++ read.0 ∷ []) input read.1
 
--- a field, and those behind it
+-- a field, and those after it
 by_field : (fields : List Field) (i : ℕ) (field : Field) (before : List Datum) (input : List ℕ) (at : Cursor)
     → i < length fields → field ≡ get_or fields i field
     → fields_at (readers_of (drop i fields)) before input at
@@ -39,7 +39,7 @@ field_fails fields i field before input at e total lt is refused so_far =
     sym so_far ∙ by_field fields i field before input at lt is
     ∙ ap (λ r. r >>= behind_field fields i before input) refused
 
--- a field is read, and others stand behind it
+-- a field is read, and others stand after it
 pub fields_on : (fields : List Field) (i : ℕ) (field : Field) (before more : List Datum) (input : List ℕ)
     (at : Cursor) (value : Datum) (after : Cursor) (total : Answer) → i < length fields
     → field ≡ get_or fields i field

@@ -34,7 +34,7 @@ number_from bounds input at =
 abbrev pub num_at : Bounds → List ℕ → Cursor → Result (Datum × Cursor) DatumRefusal
 num_at bounds input at = map_value (λ taken. (datums.Num taken.0, taken.1)) (number_from bounds input at)
 
--- the byte of a truth value: 0 is false, and 1 is true
+-- the byte of a boolean: 0 is false, and 1 is true
 abbrev pub flag_of : ℕ → Cursor → Result (Datum × Cursor) DatumRefusal
 flag_of byte at =
     if byte == 0 then Ok (datums.Flag false, moved at (at.place + 1))
@@ -51,13 +51,13 @@ raw_at size input at =
     if nat_lt (length input - at.place) size then Err (Short at.place)
     else Ok (datums.Raw (slice_range input at.place (at.place + size)), moved at (at.place + size))
 
--- bytes behind their length
+-- bytes after their length
 unfoldable pub sized_at : List ℕ → Cursor → Result (List ℕ × Cursor) DatumRefusal
 sized_at input at =
     map_value (λ taken. (slice_range input taken.0 taken.1, moved at taken.1))
     (map_refusal wire_refusal (bytes_at input at.place))
 
--- text behind its length
+-- text after its length
 unfoldable pub text_at : List ℕ → Cursor → Result (List ℕ × Cursor) DatumRefusal
 text_at input at = sized_at input at >>= λ taken. if is_utf8 taken.0 then Ok taken else Err (Utf8 at.place)
 
@@ -70,7 +70,7 @@ unfoldable pub choice_at : ℕ → List ℕ → Cursor → Result (ℕ × Cursor
 choice_at many input at =
     number_from int input at >>= λ number. map_value (λ n. (n, number.1)) (within at.place many number.0)
 
--- ---- items one behind the other, over the reader of each
+-- ---- items, in order, over the reader of each
 
 -- what is read at a place of the input, and where the next item begins
 abbrev pub Reads : Type 0 → Type 0
@@ -79,7 +79,7 @@ Reads A = List ℕ → Cursor → Result (A × Cursor) DatumRefusal
 abbrev pub Reader : Type 0
 Reader = Reads Datum
 
--- the fields of a record, behind those before them
+-- the fields of a record, after those before them
 unfoldable pub fields_at : List Reader → List Datum → List ℕ → Cursor → Result (List Datum × Cursor) DatumRefusal
 fields_at [] before input at = Ok (before, at)
 fields_at (field ∷ fields) before input at =
@@ -89,17 +89,17 @@ fields_at (field ∷ fields) before input at =
 abbrev pub pair_at : Reader → Reads (List ℕ × Datum)
 pair_at value input at = text_at input at >>= λ key. map_value (λ read. ((key.0, read.0), read.1)) (value input key.1)
 
--- one item more, behind those before it
+-- one item more, after those before it
 abbrev pub item_at : {A : Type 0} → Reads A → List ℕ → List A × Cursor → Result (List A × Cursor) DatumRefusal
 item_at item input (before, at) = map_value (λ read. (before ++ read.0 ∷ [], read.1)) (item input at)
 
--- so many items, behind those before them
+-- so many items, after those before them
 unfoldable pub items_at : {A : Type 0} → Reads A → ℕ → List A → List ℕ → Cursor → Result (List A × Cursor) DatumRefusal
 items_at item count before input at = repeated (item_at item input) count (before, at)
 
 -- ---- blocks of items. Avro 1.11, "Arrays", "Maps"
 
--- the cursor behind a block's count, where the value may have that many items more; the count began at the place
+-- the cursor after a block's count, where the value may have that many items more; the count began at the place
 abbrev pub with_count : ℕ → ℕ → Cursor → Result Cursor DatumRefusal
 with_count place count at =
     if nat_lt most_items (at.items + count) then Err (Items place) else Ok
@@ -125,7 +125,7 @@ block_at item place before input (pos count, at) =
 block_at item place before input (negsuc count, at) =
     with_count place (suc count) at >>= λ after. sized_block_at item (suc count) before input after
 
--- blocks up to the count 0, behind the items before them
+-- blocks up to the count 0, after the items before them
 -- no value has more blocks than the input has bytes, so the tries don't run out
 unfoldable pub blocks_at : {A : Type 0} → Reads A → ℕ → List A → List ℕ → Cursor → Result (List A × Cursor) DatumRefusal
 blocks_at item zero before input at = Err (Short at.place)

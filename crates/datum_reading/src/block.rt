@@ -15,13 +15,13 @@ const MOST_ITEMS: u64 = 16_777_216;
 /// The size that a block tells.
 #[derive(Clone, Copy)]
 pub struct BlockSize {
-    /// The size in bytes, as it is told.
+    /// The size in bytes, as it is reported.
     pub bytes: i64,
     /// Where the size begins, in bytes from 0.
     pub place: usize,
 }
 
-/// What stands before the items of a block.
+/// What comes before the items of a block.
 #[derive(Clone, Copy)]
 pub struct BlockHead {
     /// How many items the block has. 0: it is the end of the array or the map.
@@ -120,7 +120,7 @@ pub fn check_size(head: &BlockHead, after: Cursor) -> Result<(), DatumRefusal>
     }
 }
 
-/// Whether so many bytes are the size that a block tells.
+/// Whether `count` bytes are the size that a block tells.
 fn check_bytes(size: BlockSize, many: usize) -> Result<(), DatumRefusal>
     ensures { result
         ≡ (if is_natural size.bytes many then Ok tt else Err (DatumRefusal.Size size.place)) }

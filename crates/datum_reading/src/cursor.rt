@@ -5,6 +5,6 @@
 pub struct Cursor {
     /// Bytes from 0, from the start of the input.
     pub place: usize,
-    /// The sum of the counts of the blocks of arrays and maps that stand before the place.
+    /// The sum of the counts of the blocks of arrays and maps before the place.
     pub items: u64,
 }

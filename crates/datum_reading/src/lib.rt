@@ -4,7 +4,7 @@
 //! |---|---|
 //! | `cursor` | a place inside a value |
 //! | `refusal` | why bytes are no value |
-//! | `primitive`, `block` | numbers, truth values, bytes and texts, taken at a cursor; the heads and ends of blocks |
+//! | `primitive`, `block` | numbers, booleans, bytes and texts, taken at a cursor; the heads and ends of blocks |
 //! | `reading` | the value of some bytes |
 //! | `skipping` | where a value ends, without building it |
 //! | `compact` | schemas without the fields that take no bytes |

@@ -1,4 +1,4 @@
-//! Reading what holds no other value: numbers, truth values, bytes and texts.
+//! Reading what holds no other value: numbers, booleans, bytes and texts.
 
 ghost use Rattle.std.specs.Prelude.{◌≡◌, ◌<◌, ◌≤◌, pos, length, slice_get, slice_range, IfOk};
 ghost use Rattle.words.specs.Reading.{Gives, never, map_value};
@@ -23,7 +23,7 @@ fn refusal_of(refusal: WireRefusal) -> DatumRefusal
     }
 }
 
-/// A cursor that stands at `place`, with as many items as `at` counted.
+/// A cursor at `place`, with as many items as `at` counted.
 fn moved_to(at: Cursor, place: usize) -> Cursor
     ensures { result ≡ moved at place }
 {
@@ -33,7 +33,7 @@ fn moved_to(at: Cursor, place: usize) -> Cursor
     }
 }
 
-/// The long at the cursor, and the cursor behind it. Avro spec, "Primitive Types".
+/// The long at the cursor, and the cursor after it. Avro spec, "Primitive Types".
 #[tactic(auto, unfolding(crate::specs::Reading::number_from))]
 pub fn take_long_at(input: &[u8], at: Cursor) -> Result<(i64, Cursor), DatumRefusal>
     requires { at.place ≤ length input.now }
@@ -47,7 +47,7 @@ pub fn take_long_at(input: &[u8], at: Cursor) -> Result<(i64, Cursor), DatumRefu
     }
 }
 
-/// The int at the cursor, and the cursor behind it. Avro spec, "Primitive Types".
+/// The int at the cursor, and the cursor after it. Avro spec, "Primitive Types".
 #[tactic(auto, unfolding(crate::specs::Reading::number_from))]
 pub fn take_int_at(input: &[u8], at: Cursor) -> Result<(i32, Cursor), DatumRefusal>
     requires { at.place ≤ length input.now }
@@ -61,7 +61,7 @@ pub fn take_int_at(input: &[u8], at: Cursor) -> Result<(i32, Cursor), DatumRefus
     }
 }
 
-/// The truth value at the cursor, and the cursor behind it. Avro spec, "Primitive Types".
+/// The boolean at the cursor, and the cursor after it. Avro spec, "Primitive Types".
 pub fn take_flag(input: &[u8], at: Cursor) -> Result<(bool, Cursor), DatumRefusal>
     requires { at.place ≤ length input.now }
     ensures exact { Gives never (λ taken. (datums.Flag taken.0, taken.1)) result
@@ -98,8 +98,8 @@ pub fn pass_raw(size: u64, input: &[u8], at: Cursor) -> Result<Cursor, DatumRefu
     Ok(moved_to(at, at.place + size as usize))
 }
 
-/// The bytes at the cursor, which stand behind their length: where they start, and the cursor
-/// behind them. Avro spec, "Primitive Types".
+/// The bytes at the cursor, which stand after their length: where they start, and the cursor
+/// after them. Avro spec, "Primitive Types".
 #[tactic(auto, unfolding(crate::specs::Reading::sized_at))]
 pub fn pass_sized(input: &[u8], at: Cursor) -> Result<(usize, Cursor), DatumRefusal>
     requires { at.place ≤ length input.now }
@@ -115,7 +115,7 @@ pub fn pass_sized(input: &[u8], at: Cursor) -> Result<(usize, Cursor), DatumRefu
     }
 }
 
-/// The text at the cursor, lent from the input, and the cursor behind it. `Utf8` names where its
+/// The text at the cursor, borrowed from the input, and the cursor after it. `Utf8` names where its
 /// length begins. Avro spec, "Primitive Types".
 #[tactic(auto, unfolding(crate::specs::Reading::text_at))]
 pub fn take_text<'a>(input: &'a [u8], at: Cursor) -> Result<(&'a str, Cursor), DatumRefusal>
@@ -133,8 +133,8 @@ pub fn take_text<'a>(input: &'a [u8], at: Cursor) -> Result<(&'a str, Cursor), D
     }
 }
 
-/// The place of a union's branch or of an enum's symbol at the cursor, counted from 0, of so many.
-/// Beside it the cursor behind it. Avro spec, "Unions"; "Enums".
+/// The place of a union's branch or of an enum's symbol at the cursor, counted from 0, of `count`.
+/// Beside it the cursor after it. Avro spec, "Unions"; "Enums".
 #[tactic(auto, unfolding(crate::specs::Reading::choice_at))]
 pub fn take_choice(many: usize, input: &[u8], at: Cursor) -> Result<(u32, Cursor), DatumRefusal>
     requires { at.place ≤ length input.now }
@@ -152,7 +152,7 @@ pub fn take_choice(many: usize, input: &[u8], at: Cursor) -> Result<(u32, Cursor
     Ok((number as u32, after))
 }
 
-/// A truth value, as a value.
+/// A boolean, as a value.
 pub fn read_flag(input: &[u8], at: Cursor) -> Result<(Datum, Cursor), DatumRefusal>
     requires { at.place ≤ length input.now }
     ensures exact { Gives is_memory (λ read. read) result
@@ -186,7 +186,7 @@ pub fn read_long(input: &[u8], at: Cursor) -> Result<(Datum, Cursor), DatumRefus
     Ok((Datum::Num(number), after))
 }
 
-/// So many bytes, as a value.
+/// `count` bytes, as a value.
 pub fn read_raw(
     alloc: Global,
     size: u64,
@@ -203,7 +203,7 @@ pub fn read_raw(
     Ok((Datum::Raw(bytes), after))
 }
 
-/// Bytes behind their length, as a value.
+/// Bytes after their length, as a value.
 pub fn read_sized(alloc: Global, input: &[u8], at: Cursor) -> Result<(Datum, Cursor), DatumRefusal>
     requires { at.place ≤ length input.now }
     ensures exact { Gives is_memory (λ read. read) result
@@ -227,7 +227,7 @@ pub fn read_text(alloc: Global, input: &[u8], at: Cursor) -> Result<(Text, Curso
     Ok((Text::from_str(alloc, text)?, after))
 }
 
-/// A text behind its length, as a value.
+/// A text after its length, as a value.
 pub fn read_string(alloc: Global, input: &[u8], at: Cursor) -> Result<(Datum, Cursor), DatumRefusal>
     requires { at.place ≤ length input.now }
     ensures exact { Gives is_memory (λ read. read) result
@@ -239,7 +239,7 @@ pub fn read_string(alloc: Global, input: &[u8], at: Cursor) -> Result<(Datum, Cu
     Ok((Datum::Str(text), after))
 }
 
-/// The place of a symbol, of so many, as a value.
+/// The place of a symbol, of `count`, as a value.
 pub fn read_symbol(many: usize, input: &[u8], at: Cursor) -> Result<(Datum, Cursor), DatumRefusal>
     requires { at.place ≤ length input.now }
     ensures exact { Gives is_memory (λ read. read) result

@@ -55,13 +55,13 @@ pub fn decode(
     decode_from(alloc, schema, input, place)
 }
 
-/// A law, and no code: what is read under a schema is spelled so, and what is spelled so is read.
+/// A law, and no code: what is read under a schema is encoded so, and what is encoded so is read.
 pub fn reading_agrees()
     ensures { (schema : Schema) → Agrees (datum_at schema) (Spells schema) items_in }
 {}
 
-/// A law and no code: two spellings of values of a schema at the front of one list are the same
-/// bytes and the same value, so that none is the front of another.
+/// A law, without code: two encodings of values of a schema at the beginning of one list are the same
+/// bytes and the same value, so that none is a proper prefix of another.
 pub fn no_prefix()
     ensures { (schema : Schema) (datum other : Datum) (a b after rest : List ℕ)
         → IsEncoding schema datum a → IsEncoding schema other b
@@ -86,7 +86,7 @@ fn decode_from(
     Ok((datum, after.place))
 }
 
-/// The value at the cursor, and the cursor behind it.
+/// The value at the cursor, and the cursor after it.
 #[cycle(decode)]
 #[tactic(auto, using(crate::specs::Layers::layers))]
 fn read_datum(
@@ -163,7 +163,7 @@ fn read_union(
     Ok((Datum::Branch(choice, Boxed::new(alloc, value)?), after))
 }
 
-/// So many items behind those before them: the cursor behind them.
+/// `count` more items, and the cursor after them.
 #[cycle(decode)]
 fn read_items(
     alloc: Global,
@@ -238,7 +238,7 @@ fn read_pair(
     Ok(((key, value), after))
 }
 
-/// So many pairs behind those before them: the cursor behind them.
+/// `count` more pairs, and the cursor after them.
 #[cycle(decode)]
 fn read_pairs(
     alloc: Global,

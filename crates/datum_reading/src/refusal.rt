@@ -19,7 +19,7 @@ pub enum DatumRefusal {
     Short { place: u64 },
     /// The number takes more bytes than it may, doesn't fit, or is a negative length.
     TooLong { place: u64 },
-    /// The byte of a truth value is neither 0 nor 1.
+    /// The byte of a boolean is neither 0 nor 1.
     Flag { place: u64 },
     /// A union has no branch, or an enum no symbol, of this number.
     Branch { place: u64 },
@@ -30,7 +30,7 @@ pub enum DatumRefusal {
     /// With this block the value has more than 16,777,216 items of arrays and maps. `place` is
     /// where the block's count begins.
     Items { place: u64 },
-    /// There was no memory.
+    /// Memory ran out.
     Memory,
 }
 
@@ -52,7 +52,7 @@ impl DatumRefusal {
     }
 }
 
-/// The words before and behind the place, and the place. `None`: the refusal has no place.
+/// The words before and after the place, and the place. `None`: the refusal has no place.
 fn words_of(refusal: DatumRefusal) -> (&'static str, Option<u64>, &'static str) {
     match refusal {
         DatumRefusal::Short { place } => (

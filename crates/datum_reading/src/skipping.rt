@@ -14,7 +14,7 @@ use crate::primitive::{
 use crate::refusal::DatumRefusal;
 use schema_tree::{Branches, Fields, Schema};
 
-/// Where the value at the cursor ends, and how many items of arrays and maps stand before that.
+/// Where the value at the cursor ends, and how many items of arrays and maps are before that.
 /// Takes no memory. The refusals are those of `decode`, in the same order: also the items of a
 /// block that tells its size are read, since the size has to be true. Of an array's items that take
 /// no bytes, as nulls do, the first alone is looked at. Avro spec, "Binary encoding".
@@ -55,7 +55,7 @@ fn skip_datum(schema: &Schema, input: &[u8], at: Cursor) -> Result<Cursor, Datum
     }
 }
 
-/// Where a truth value ends.
+/// Where a boolean ends.
 fn skip_flag(input: &[u8], at: Cursor) -> Result<Cursor, DatumRefusal>
     requires { at.place ≤ length input.now }
     ensures exact { Gives never (λ after. after) result
@@ -91,7 +91,7 @@ fn skip_long(input: &[u8], at: Cursor) -> Result<Cursor, DatumRefusal>
     Ok(after)
 }
 
-/// Where bytes behind their length end.
+/// Where bytes after their length end.
 fn skip_sized(input: &[u8], at: Cursor) -> Result<Cursor, DatumRefusal>
     requires { at.place ≤ length input.now }
     ensures exact { Gives never (λ after. after) result
@@ -103,7 +103,7 @@ fn skip_sized(input: &[u8], at: Cursor) -> Result<Cursor, DatumRefusal>
     Ok(after)
 }
 
-/// Where a text behind its length ends.
+/// Where a text after its length ends.
 fn skip_text(input: &[u8], at: Cursor) -> Result<Cursor, DatumRefusal>
     requires { at.place ≤ length input.now }
     ensures exact { Gives never (λ after. after) result
@@ -115,7 +115,7 @@ fn skip_text(input: &[u8], at: Cursor) -> Result<Cursor, DatumRefusal>
     Ok(after)
 }
 
-/// Where the number of a symbol, of so many, ends.
+/// Where the number of a symbol, of `count`, ends.
 fn skip_symbol(many: usize, input: &[u8], at: Cursor) -> Result<Cursor, DatumRefusal>
     requires { at.place ≤ length input.now }
     ensures exact { Gives never (λ after. after) result

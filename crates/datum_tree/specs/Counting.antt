@@ -3,7 +3,7 @@ use Rattle.std.specs.Prelude.{ℕ, ◌-◌, List, Option, Some, None, nat_lt, if
 use Rattle.datum_tree.specs.declared.datum.Datum.{Datum}
 use Rattle.datum_tree.specs.Value.{items_in}
 
--- what is left of so many once these are taken, where there are no more of them
+-- what is left of `count` once these are taken, where there are no more of them
 abbrev pub items_left : ℕ → ℕ → Option ℕ
 items_left left many = if nat_lt left many then None else Some (left - many)
 

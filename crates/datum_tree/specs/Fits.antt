@@ -15,11 +15,11 @@ use Rattle.datum_tree.specs.Value.{Level, items_in, most_items}
 abbrev pub Test : Type 0
 Test = Datum → Bool
 
--- a number of so many bits besides its sign
+-- a number of `count` bits besides its sign
 abbrev pub is_signed : ℕ → ℤ → Bool
 is_signed bits number = not (int_lt number (negsuc (2 ^ bits - 1))) && int_lt number (pos (2 ^ bits))
 
--- the place of one of so many, which is an int
+-- the place of one of `count`, which is an int
 abbrev pub is_place : ℕ → ℤ → Bool
 is_place many (pos place) = nat_lt place many && nat_lt place (2 ^ 31)
 is_place many (negsuc below) = false

@@ -31,7 +31,7 @@ null_fits datum =
     refl (λ x. refl) (λ x. refl) (λ x. refl) (λ x. refl) (λ x y. refl) (λ x. refl) (λ x. refl) (λ x. refl)
     (out-Datum datum))
 
--- a truth value
+-- a boolean
 pub boolean_fits : (datum : Datum) → fits_schema schemas.Boolean datum ≡ test_if (λ flag. true)
     (flag_in (out-Datum datum))
 boolean_fits datum =

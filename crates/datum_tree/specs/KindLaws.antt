@@ -24,7 +24,7 @@ by_kind P null flag num raw str branch rec array map (Array x) = array x
 by_kind P null flag num raw str branch rec array map (Map x) = map x
 
 -- what a value is, by what it is seen as
--- a truth value
+-- a boolean
 flag_level : (level : Level) (x : Bool) → flag_in level ≡ Some x → roll-Datum level ≡ datums.Flag x
 flag_level Null x seen = cc
 flag_level (Flag y) x seen = let same : y ≡ x = cc in rw same (datums.rolls-Flag x)

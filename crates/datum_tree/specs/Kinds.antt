@@ -1,11 +1,11 @@
--- What a value is, where it is of that kind.
+-- What a value is, if it is of that kind.
 use Rattle.std.specs.Prelude.{ℕ, ℤ, Bool, true, false, List, [], Option, Some, None}
 use Rattle.std.specs.Borrow.{Bor}
 use Rattle.datum_tree.specs.declared.datum.Datum.{Datum}
 use Rattle.datum_tree.specs.declared.datum.Datum.TheOpen.{Null, Flag, Num, Raw, Str, Branch, Rec, Array, Map}
 use Rattle.datum_tree.specs.Value.{Level}
 
--- a truth value
+-- a boolean
 abbrev pub flag_in : Level → Option Bool
 flag_in (Flag flag) = Some flag
 flag_in _ = None
@@ -45,7 +45,7 @@ abbrev pub branch_in : Level → Option (ℕ × Datum)
 branch_in (Branch place inside) = Some (place, inside)
 branch_in _ = None
 
--- a branch that is lent
+-- a branch that is borrowed
 abbrev pub lent_branch : Option (ℕ × Bor Datum) → Option (ℕ × Datum)
 lent_branch None = None
 lent_branch (Some branch) = Some (branch.0, branch.1.now)

@@ -23,7 +23,7 @@ pub record SpellsNum (bounds : Bounds) (datum : Datum) (bytes : List ℕ) : Type
   pub value : datum ≡ datums.Num number
   pub spelled : SpellsNumber bounds bytes number
 
--- a truth value: 0 is false, and 1 is true
+-- a boolean: 0 is false, and 1 is true
 abbrev pub flag_byte : Bool → ℕ
 flag_byte false = 0
 flag_byte true = 1
@@ -38,13 +38,13 @@ pub record SpellsRaw (size : ℕ) (datum : Datum) (bytes : List ℕ) : Type 0 wh
   pub value : datum ≡ datums.Raw bytes
   pub many : length bytes ≡ size
 
--- bytes behind their length
+-- bytes after their length
 pub record SpellsSized (datum : Datum) (bytes : List ℕ) : Type 0 where
   pub inside : List ℕ
   pub value : datum ≡ datums.Raw inside
   pub spelled : SpellsBytes inside bytes
 
--- text behind its length
+-- text after its length
 pub record SpellsText (text bytes : List ℕ) : Type 0 where
   pub is_text : IsUtf8 text
   pub spelled : SpellsBytes text bytes
@@ -54,7 +54,7 @@ pub record SpellsString (datum : Datum) (bytes : List ℕ) : Type 0 where
   pub value : datum ≡ datums.Str text
   pub spelled : SpellsText text bytes
 
--- the place of a symbol, of so many
+-- the place of a symbol, of `count`
 pub record SpellsSymbol (many : ℕ) (datum : Datum) (bytes : List ℕ) : Type 0 where
   pub place : ℕ
   pub within : place < many

@@ -7,10 +7,10 @@ use lists::{Copied, List};
 use sqlite_items::Boxed;
 use std::alloc::{AllocError, Global};
 
-/// Values, one behind the other: those of a record's fields, or of an array's items.
+/// Values, in order: those of a record's fields, or of an array's items.
 pub type Items = List<Datum>;
 
-/// The pairs of a map, in the order in which they stand: a key may stand twice.
+/// The pairs of a map, in the order of the bytes: a key may be a duplicate.
 pub type Pairs = List<(Text, Datum)>;
 
 /// A value of some schema. Avro spec, "Binary encoding".
@@ -18,11 +18,11 @@ pub type Pairs = List<(Text, Datum)>;
 pub enum Datum {
     /// The null.
     Null,
-    /// A truth value.
+    /// A boolean.
     Flag(bool),
     /// An int, a long, or the place of an enum's symbol, counted from 0.
     Num(i64),
-    /// Bytes, or the bytes of a fixed, a float or a double, as they stand in the encoding.
+    /// Bytes, or the bytes of a fixed, a float or a double, as they are in the encoding.
     Raw(Bytes),
     /// A string.
     Str(Text),

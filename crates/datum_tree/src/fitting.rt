@@ -133,14 +133,14 @@ fn fits_branch(branches: &[Schema], place: u32, inside: &Datum) -> bool
     fits_value(&branches[place], inside)
 }
 
-/// Whether the place is an int, as it is spelled.
+/// Whether the place is an int, as it is encoded.
 fn is_low(place: u32) -> bool
     ensures { result ≡ nat_lt place (2 ^ 31) }
 {
     place < 2_147_483_648
 }
 
-/// Whether the value is a truth value.
+/// Whether the value is a boolean.
 fn is_flag(datum: &Datum) -> bool
     ensures { result ≡ test_if (λ flag. true) (flag_in (out-Datum datum.now)) }
 {
@@ -170,7 +170,7 @@ fn is_long(datum: &Datum) -> bool
     }
 }
 
-/// Whether the value is the place of one of so many, and an int, as it is spelled.
+/// Whether the value is the place of one of `count`, and an int, as it is encoded.
 fn is_symbol(datum: &Datum, many: usize) -> bool
     ensures { result ≡ test_if (is_place many) (number_in (out-Datum datum.now)) }
 {
@@ -220,7 +220,7 @@ fn has_few_items(datum: &Datum) -> bool
     }
 }
 
-/// What is left of so many items once those of the value are taken. `None`: there are more.
+/// What is left of `count` items once those of the value are taken. `None`: there are more.
 #[cycle(take)]
 fn take_items(datum: &Datum, left: u64) -> Option<u64>
     ensures { result ≡ items_left left (items_in datum.now) }
@@ -246,7 +246,7 @@ fn take_items(datum: &Datum, left: u64) -> Option<u64>
     }
 }
 
-/// What is left of so many items once those of each value are taken. `None`: there are more.
+/// What is left of `count` items once those of each value are taken. `None`: there are more.
 #[cycle(take)]
 fn take_each(values: &[Datum], left: u64) -> Option<u64>
     ensures { result ≡ items_left left (sum (map items_in values.now)) }
@@ -261,7 +261,7 @@ fn take_each(values: &[Datum], left: u64) -> Option<u64>
     Some(rest)
 }
 
-/// What is left of so many items once those of each pair's value are taken. `None`: there are more.
+/// What is left of `count` items once those of each pair's value are taken. `None`: there are more.
 #[cycle(take)]
 fn take_pairs(pairs: &[(Text, Datum)], left: u64) -> Option<u64>
     ensures { result ≡ items_left left (sum (map pair_items pairs.now)) }

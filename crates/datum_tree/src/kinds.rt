@@ -1,4 +1,4 @@
-//! What a value is, where it is of that kind.
+//! What a value is, if it is of that kind.
 
 ghost use Rattle.std.specs.Prelude.{◌≡◌};
 ghost use Rattle.std.specs.Option.{option_copied};
@@ -19,7 +19,7 @@ pub fn is_null(datum: &Datum) -> bool
     }
 }
 
-/// The truth value. `None`: the value is of another kind.
+/// The boolean. `None`: the value is of another kind.
 pub fn flag_of(datum: &Datum) -> Option<bool>
     ensures { result ≡ flag_in (out-Datum datum.now) }
 {

@@ -17,7 +17,7 @@ use Rattle.datum_tree.specs.Spelling.{flag_byte}
 abbrev pub Encoder : Type 0
 Encoder = Datum → List ℕ
 
--- the fields' values, one behind the other
+-- the fields' values, in order
 abbrev pub each_text : List Encoder → List Datum → List ℕ
 each_text [] values = []
 each_text (field ∷ fields) [] = []

@@ -17,7 +17,7 @@ use datum_tree::{
 use schema_tree::{Field, Schema};
 use std::alloc::AllocError;
 
-/// Puts the value's bytes behind `out`. An `Err` says that memory ran out, and leaves `out` as it
+/// Appends the value's bytes to `out`. An `Err` says that memory ran out, and leaves `out` as it
 /// was. Only of a value that fits is it said that the bytes spell it, and it isn't asked whether it
 /// does: `fits` tells. Of one that is none of the schema, a part of another kind than the schema's
 /// is put as nothing, and so is a value without its field, a field without its value, and a value
@@ -37,7 +37,7 @@ pub fn encode(schema: &Schema, datum: &Datum, out: &mut Vec<u8>) -> Result<(), A
     Ok(())
 }
 
-/// Puts a value. An `Err` says that memory ran out, with some of the bytes behind `out`.
+/// Appends a value. An `Err` says that memory ran out; `out` may have some of the bytes.
 #[cycle(put)]
 #[tactic(auto, using(crate::proofs::WritingEquations::written))]
 fn put_value(schema: &Schema, datum: &Datum, out: &mut Vec<u8>) -> Result<(), AllocError>
@@ -75,7 +75,7 @@ fn put_value(schema: &Schema, datum: &Datum, out: &mut Vec<u8>) -> Result<(), Al
     }
 }
 
-/// Puts the fields' values, one behind the other.
+/// Puts the fields' values, in order.
 #[cycle(put)]
 fn put_fields(fields: &[Field], values: &[Datum], out: &mut Vec<u8>) -> Result<(), AllocError>
     ensures ok { OnOk result (out.new.items
@@ -158,7 +158,7 @@ fn put_place(place: u32, out: &mut Vec<u8>) -> Result<(), AllocError>
     put_long(out, i64::from(place))
 }
 
-/// Puts a truth value, where it is one.
+/// Puts a boolean, if it is one.
 fn put_flag(datum: &Datum, out: &mut Vec<u8>) -> Result<(), AllocError>
     ensures ok { OnOk result (out.new.items ≡ out.old.items
         ++ text_if (λ flag. flag_byte flag ∷ []) (flag_in (out-Datum datum.now))) }
@@ -170,7 +170,7 @@ fn put_flag(datum: &Datum, out: &mut Vec<u8>) -> Result<(), AllocError>
     }
 }
 
-/// Puts a number, where it is one.
+/// Puts a number, if it is one.
 fn put_number(datum: &Datum, out: &mut Vec<u8>) -> Result<(), AllocError>
     ensures ok { OnOk result (out.new.items ≡ out.old.items
         ++ text_if number_text (number_in (out-Datum datum.now))) }
@@ -182,7 +182,7 @@ fn put_number(datum: &Datum, out: &mut Vec<u8>) -> Result<(), AllocError>
     }
 }
 
-/// Puts bytes as they are, where the value is bytes.
+/// Puts bytes as they are, if the value is bytes.
 fn put_raw(datum: &Datum, out: &mut Vec<u8>) -> Result<(), AllocError>
     ensures ok { OnOk result (out.new.items ≡ out.old.items
         ++ text_if (λ bytes. bytes) (raw_in (out-Datum datum.now))) }
@@ -194,7 +194,7 @@ fn put_raw(datum: &Datum, out: &mut Vec<u8>) -> Result<(), AllocError>
     }
 }
 
-/// Puts bytes behind their length, where the value is bytes.
+/// Puts bytes after their length, if the value is bytes.
 fn put_sized(datum: &Datum, out: &mut Vec<u8>) -> Result<(), AllocError>
     ensures ok { OnOk result (out.new.items ≡ out.old.items
         ++ text_if bytes_text (raw_in (out-Datum datum.now))) }
@@ -207,7 +207,7 @@ fn put_sized(datum: &Datum, out: &mut Vec<u8>) -> Result<(), AllocError>
     }
 }
 
-/// Puts a text behind its length, where the value is one.
+/// Puts a text after its length, if the value is one.
 fn put_text(datum: &Datum, out: &mut Vec<u8>) -> Result<(), AllocError>
     ensures ok { OnOk result (out.new.items ≡ out.old.items
         ++ text_if bytes_text (text_in (out-Datum datum.now))) }

@@ -1,5 +1,5 @@
 -- A record, and records in it that are opened, seen as one record of all their fields: its bytes are the same.
--- Avro 1.11, "Records": the fields are encoded one behind the other, with nothing between them.
+-- Avro 1.11, "Records": the fields are encoded, in order, with nothing between them.
 use Rattle.std.specs.Prelude.{ℤ, Bool, true, false, List, [], ◌∷◌, ◌++◌, map, Option, None}
 use Rattle.schema_tree.specs.declared.schema.Schema.{out-Schema}
 use Rattle.schema_tree.specs.declared.schema.Schema.TheOpen.{Rec}
@@ -15,11 +15,11 @@ use Rattle.avro_cells.specs.Value.{values_of}
 abbrev pub Opens : Type 0
 Opens = Option ℤ → Bool
 
--- a field of a record that stands in a field of the id; None: of the outer record
+-- a field of a record in a field of the id; None: of the outer record
 abbrev pub inner_leaf : Option ℤ → Field → Leaf
 inner_leaf parent field = record { parent = parent; id = (out-Field field).id; schema = (out-Field field).schema }
 
--- the fields of the record that stands in the field; the field itself, if none does
+-- the fields of the record in the field; the field itself, if none does
 abbrev pub leaves_of_level : Field → Level → List Leaf
 leaves_of_level field (Rec name fields) = map (inner_leaf (out-Field field).id) fields
 leaves_of_level field _ = inner_leaf None field ∷ []
@@ -53,7 +53,7 @@ flat_values opened (field ∷ fields) (value ∷ values) =
     flat_if (opened (out-Field field).id) (out-Schema (out-Field field).schema) value
     ++ flat_values opened fields values
 
--- what a leaf that is lent is
+-- what a leaf that is borrowed is
 abbrev pub leaf_of : LentLeaf → Leaf
 leaf_of leaf = record { parent = leaf.parent; id = leaf.id; schema = leaf.schema.now }
 

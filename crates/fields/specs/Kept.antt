@@ -48,7 +48,7 @@ kept_values (leaf ∷ leaves) [] = []
 kept_values (leaf ∷ leaves) (value ∷ values) =
     if is_bare leaf then kept_values leaves values else value ∷ kept_values leaves values
 
--- the place of a field behind so many fields whose values take bytes; none if its own take none
+-- the place of a field after so many fields whose values take bytes; none if its own take none
 abbrev pub slot_of : Bool → ℕ → Option ℕ
 slot_of empty many = if empty then None else Some many
 
@@ -56,7 +56,7 @@ slot_of empty many = if empty then None else Some many
 abbrev pub behind_slot : Bool → ℕ → ℕ
 behind_slot empty many = if empty then many else many + 1
 
--- for each field its place among those whose values take bytes, behind so many before them
+-- for each field its place among those whose values take bytes, after so many before them
 unfoldable pub slots : ℕ → List Leaf → List (Option ℕ)
 slots many [] = []
 slots many (leaf ∷ leaves) = slot_of (is_bare leaf) many ∷ slots (behind_slot (is_bare leaf) many) leaves

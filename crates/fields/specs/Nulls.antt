@@ -7,7 +7,7 @@ use Rattle.fields.specs.declared.wanted.Wanted.{Wanted}
 use Rattle.fields.specs.declared.refusal.FieldRefusal.{FieldRefusal}
 use Rattle.fields.specs.declared.refusal.FieldRefusal.TheVariants.{MissingField}
 
--- the place of the first required field whose source passes the test; behind all if there is none
+-- the place of the first required field whose source passes the test; after all if there is none
 unfoldable pub first_of : (Option ℕ → Bool) → List Wanted → List (Option ℕ) → ℕ
 first_of test [] sources = 0
 first_of test (w ∷ wanted) [] = length (w ∷ wanted)
@@ -23,7 +23,7 @@ is_at place (Some source) = source == place
 abbrev pub is_needed : ℕ → Wanted → Option ℕ → Bool
 is_needed place w source = w.required && is_at place source
 
--- for each of so many fields from a place on the first required field that it holds
+-- for each of `count` fields from a place on the first required field that it holds
 unfoldable pub needed_from : List Wanted → List (Option ℕ) → ℕ → ℕ → List ℕ
 needed_from wanted sources place zero = []
 needed_from wanted sources place (suc many) =
@@ -39,7 +39,7 @@ with_nulls first [] cells = first
 with_nulls first (n ∷ needed) [] = first
 with_nulls first (n ∷ needed) (cell ∷ cells) = with_nulls (with_null (is_null cell) n first) needed cells
 
--- the required field at the place is refused; behind all none is
+-- the required field at the place is refused; after all none is
 abbrev pub refused_as : Option Wanted → Result (Unit {0}) FieldRefusal
 refused_as None = Ok tt
 refused_as (Some w) = Err (MissingField w.id)

@@ -71,7 +71,7 @@ start place = record { place = place; items = 0 }
 abbrev pub checked : List Wanted → List Cell → Result (List Cell) FieldRefusal
 checked wanted cells = check_nulls wanted cells >>= λ _. Ok cells
 
--- the cells of the record at a place, and the place behind it
+-- the cells of the record at a place, and the place after it
 unfoldable pub record_at : Schema → List Wanted → List ℕ → ℕ → Result (List Cell × ℕ) FieldRefusal
 record_at schema wanted input place = do
   read ← map_refusal datum_refusal (datum_at schema input (start place))

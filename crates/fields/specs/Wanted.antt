@@ -38,7 +38,7 @@ is_id (Some id) (Some other) = int_eq other id
 abbrev pub is_this : Wanted → Leaf → Bool
 is_this wanted leaf = is_id (Some wanted.id) leaf.id && is_id wanted.parent leaf.parent
 
--- one of the wanted fields is in a record that stands in a field of the id
+-- one of the wanted fields is in a record in a field of the id
 abbrev pub has_inner : ℤ → List Wanted → Bool
 has_inner id [] = false
 has_inner id (w ∷ wanted) = is_id (Some id) w.parent || has_inner id wanted
@@ -69,7 +69,7 @@ source_as kind (Some found) = if is_allowed kind found.1 then Some found.0 else 
 abbrev pub source : List Leaf → Wanted → Option ℕ
 source fields wanted = source_as wanted.kind (find wanted fields)
 
--- the cell of the value at a place; null where there is none
+-- the cell of the value at a place; null if there is none
 abbrev pub cell_at : List Datum → Option ℕ → Cell
 cell_at values None = cells.Null
 cell_at values (Some place) = cell_of (slice_get values place)
@@ -90,14 +90,14 @@ abbrev pub is_none : Option ℕ → Bool
 is_none None = true
 is_none (Some place) = false
 
--- each required field is there, of an allowed type; the first one in the order of the table that is not is told
+-- each required field is there, of an allowed type; the first one in the order of the table that is not is reported
 unfoldable pub check_missing : List Leaf → List Wanted → Result (Unit {0}) FieldRefusal
 check_missing fields [] = Ok tt
 check_missing fields (w ∷ wanted) =
     if w.required && is_none (source fields w) then Err (MissingField w.id)
     else check_missing fields wanted
 
--- no required field has a null; the first one in the order of the table that has is told
+-- no required field has a null; the first one in the order of the table that has is reported
 unfoldable pub check_nulls : List Wanted → List Cell → Result (Unit {0}) FieldRefusal
 check_nulls [] cells = Ok tt
 check_nulls (w ∷ wanted) [] = Ok tt

@@ -124,7 +124,7 @@ fn forms_of(alloc: Global, leaves: &Vec<Leaf>) -> Result<Vec<Option<Form>>, Allo
     Ok(forms)
 }
 
-/// For each of so many fields the first required field that it holds.
+/// For each of `count` fields the first required field that it holds.
 #[tactic(auto, using(crate::proofs::FirstLemmas::needed_steps))]
 fn needed_of(
     alloc: Global,
@@ -142,7 +142,7 @@ fn needed_of(
     Ok(needed)
 }
 
-/// The place of the first required field that the field at `place` holds. Behind all: none.
+/// The place of the first required field that the field at `place` holds. After all: none.
 #[tactic(auto, using(crate::proofs::FirstLemmas::first_steps))]
 fn first_of(wanted: &[Wanted], sources: &[Option<usize>], place: usize) -> usize
     requires { length sources.now ≡ length wanted.now }

@@ -14,10 +14,10 @@ use lists::Copied;
 use schema_tree::{Field, Schema};
 use std::alloc::{AllocError, Global};
 
-/// A field of a record, or one of a record that stands in a field of it.
+/// A field of a record, or one of a record in a field of it.
 #[derive(Drop)]
 pub struct Leaf {
-    /// The id of the field in which the record stands. None: there is none.
+    /// The id of the field that holds the record. None: it is the outer one.
     pub parent: Option<i32>,
     pub id: Option<i32>,
     /// Its type; if it holds no cells, its type without the fields that take no bytes.
@@ -27,7 +27,7 @@ pub struct Leaf {
 /// A leaf that borrows its type.
 #[derive(Clone, Copy)]
 pub struct LentLeaf<'s> {
-    /// The id of the field in which the record stands. None: there is none.
+    /// The id of the field that holds the record. None: it is the outer one.
     pub parent: Option<i32>,
     pub id: Option<i32>,
     pub schema: &'s Schema,
@@ -48,7 +48,7 @@ pub fn leaves_of<'s>(
     Ok(all)
 }
 
-/// Adds the field, or the fields of the record that stands in it, if one of them is wanted.
+/// Adds the field, or the fields of the record in it, if one of them is wanted.
 fn push_field<'s>(
     all: &mut Vec<LentLeaf<'s>>,
     field: &'s Field,
@@ -64,7 +64,7 @@ fn push_field<'s>(
     }
 }
 
-/// Adds the fields of the record that stands in the field; the field itself, if none does.
+/// Adds the fields of the record in the field; the field itself, if none does.
 fn push_opened<'s>(all: &mut Vec<LentLeaf<'s>>, field: &'s Field) -> Result<(), AllocError>
     ensures { IfOk result (λ _. map leaf_of all.new.items
         ≡ map leaf_of all.old.items ++ leaves_if true field.now) }
@@ -88,7 +88,7 @@ fn push_leaf<'s>(all: &mut Vec<LentLeaf<'s>>, field: &'s Field) -> Result<(), Al
     Ok(())
 }
 
-/// Adds the fields of a record that stands in a field of the id.
+/// Adds the fields of a record in a field of the id.
 fn push_inner<'s>(
     all: &mut Vec<LentLeaf<'s>>,
     parent: Option<i32>,
@@ -175,7 +175,7 @@ pub fn slots_of(alloc: Global, all: &[LentLeaf<'_>]) -> Result<Vec<Option<usize>
     Ok(found)
 }
 
-/// The place of a field behind so many whose values take bytes. None: its values take none.
+/// The place of a field after so many whose values take bytes. None: its values take none.
 fn slot_of(empty: bool, many: usize) -> Option<usize>
     ensures { result ≡ slot_of empty many }
 {

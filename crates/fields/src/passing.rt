@@ -19,7 +19,7 @@ use avro_cells::Form;
 use datum_reading::{Cursor, DatumRefusal, skip};
 use schema_tree::Schema;
 
-/// The place behind the record at `place`, with the refusals of `take_record`. It builds nothing.
+/// The place after the record at `place`, with the refusals of `take_record`. It builds nothing.
 pub fn pass_record(layout: &Layout, input: &[u8], place: usize) -> Result<usize, FieldRefusal>
     requires layout { IsLayout layout.now }
     requires start { place ≤ length input.now }
@@ -36,7 +36,7 @@ pub fn pass_record(layout: &Layout, input: &[u8], place: usize) -> Result<usize,
     Ok(after.place)
 }
 
-/// Refuses the required field at `place` of what is wanted; behind all there is none.
+/// Refuses the required field at `place` of what is wanted; after the last one there is none.
 fn refused_at(wanted: &[Wanted], place: usize) -> Result<(), FieldRefusal>
     ensures { result ≡ refused_at wanted.now place }
 {
@@ -73,14 +73,14 @@ fn pass_all(layout: &Layout, input: &[u8], at: Cursor) -> Result<(usize, Cursor)
     }
 }
 
-/// The place behind all wanted fields, where there is none.
+/// The place after all wanted fields, if there is none.
 fn behind_all(wanted: &Vec<Wanted>) -> usize
     ensures { result ≡ length wanted.now.items }
 {
     wanted.len()
 }
 
-/// Passes each field, one behind the other. `none` is the answer if no required one is null.
+/// Passes each field, in order. `none` is the answer if no required one is null.
 fn pass_fields(
     none: usize,
     leaves: &[Leaf],

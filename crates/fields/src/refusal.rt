@@ -13,7 +13,7 @@ pub enum FieldRefusal {
     MissingField { id: i32 },
     /// The bytes spell no value. Its place counts from the start of the input.
     NoValue(DatumRefusal),
-    /// There was no memory.
+    /// Memory ran out.
     Memory,
 }
 

@@ -1,4 +1,4 @@
-//! One record, lent from its bytes.
+//! One record, borrowed from its bytes.
 
 ghost use Rattle.std.specs.Prelude.{◌≡◌, ◌≤◌, [], ◌∷◌, List, length, map, replicate, true, Ok, IfOk, is_ok};
 ghost use Rattle.row_types.specs.declared.cell_ref.CellRef.TheVariants.{Null};
@@ -23,7 +23,7 @@ use row_types::CellRef;
 use schema_tree::Schema;
 use std::alloc::{AllocError, Global};
 
-/// The cells of one record, lent from its bytes.
+/// The cells of one record, borrowed from its bytes.
 #[derive(Drop)]
 pub struct Cells<'a> {
     /// Those of the fields whose values take bytes, in the order of the record.
@@ -46,7 +46,7 @@ pub fn nulls<'a>(alloc: Global, layout: &Layout) -> Result<Cells<'a>, AllocError
     })
 }
 
-/// So many nulls.
+/// `count` nulls.
 fn some_nulls<'a>(alloc: Global, count: usize) -> Result<Vec<CellRef<'a>>, AllocError>
     ensures many { IfOk result (λ cells. length cells.items ≡ count) }
     ensures nulls { IfOk result (λ cells. cells.items ≡ replicate count Null) }
@@ -54,7 +54,7 @@ fn some_nulls<'a>(alloc: Global, count: usize) -> Result<Vec<CellRef<'a>>, Alloc
     vec![in alloc; CellRef::Null; count]
 }
 
-/// Takes the record at `place` into `cells`, and answers the place behind it. A value that can't be
+/// Takes the record at `place` into `cells`, and answers the place after it. A value that can't be
 /// read is refused first, then a null in a required field.
 #[tactic(auto, unfolding(crate::specs::Record::record_at))]
 pub fn take_record<'a>(
@@ -81,7 +81,7 @@ pub fn take_record<'a>(
     Ok(after.place)
 }
 
-/// Takes the record at `place` into `cells`, and answers the place behind it. The record has to be
+/// Takes the record at `place` into `cells`, and answers the place after it. The record has to be
 /// right: `pass_record` or `take_record` accepted it.
 pub fn take_known_record<'a>(
     layout: &Layout,
@@ -108,7 +108,7 @@ pub fn take_known_record<'a>(
     after.place
 }
 
-/// A law and no code: what is read is stored so, and what is stored so is read.
+/// A law, without code: what is read is stored so, and what is stored so is read.
 pub fn record_agrees()
     ensures { (schema : ASchema) (wanted : List AWanted) → RecordAgrees schema wanted }
 {
@@ -137,7 +137,7 @@ fn take_all<'a>(
     }
 }
 
-/// Takes the cell of each field, one behind the other.
+/// Takes the cell of each field, in order.
 fn take_fields<'a>(
     leaves: &[Leaf],
     forms: &[Option<Form>],
@@ -199,7 +199,7 @@ fn arrange<'a>(sources: &Vec<Option<usize>>, all: &Vec<CellRef<'a>>, wanted: &mu
     }
 }
 
-/// The cell at the place; null where there is none.
+/// The cell at the place; null if there is none.
 fn picked<'a>(all: &[CellRef<'a>], source: Option<usize>) -> CellRef<'a>
     ensures { lent_cell result ≡ pick (map lent_cell all.now) source }
 {

@@ -44,7 +44,7 @@ pub fn opens(wanted: &[Wanted], id: Option<i32>) -> bool
     }
 }
 
-/// Whether a wanted field is in a record that stands in a field of the id.
+/// Whether a wanted field is in a record in a field of the id.
 fn has_inner(wanted: &[Wanted], id: i32) -> bool
     ensures { result ≡ has_inner id wanted.now }
 {

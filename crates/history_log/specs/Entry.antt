@@ -1,4 +1,4 @@
--- Entries as they stand in a text: the word, whose commit it is, its sequence number, the next id, the named and
+-- Entries as they are in a text: the word, whose commit it is, its sequence number, the next id, the named and
 -- the given ids, and the request.
 use Rattle.std.specs.Prelude.{ℕ, List, ◌++◌, Result, Ok, codes, decimal}
 use Rattle.words.specs.Reading.{◌>>=◌, map_refusal}
@@ -14,7 +14,7 @@ use Rattle.history_log.specs.Request.{request_text, request_at}
 
 -- ---- as they are printed
 
--- a piece, and a space behind it
+-- a piece, and a space after it
 abbrev pub spaced : List ℕ → List ℕ
 spaced piece = piece ++ codes " "
 
@@ -27,7 +27,7 @@ entry_text entry =
 
 -- ---- as they are read
 
--- a piece, and the place behind the gap after it
+-- a piece, and the place after the gap after it
 abbrev pub before_gap : {X : Type 0} → List ℕ → Result (X × ℕ) PieceRefusal → Result (X × ℕ) HistoryRefusal
 before_gap input read = map_refusal of_piece (read >>= λ piece. gap_at input piece.1 >>= λ start. Ok (piece.0, start))
 

@@ -1,4 +1,4 @@
--- The parts of an entry's text: its numbers, its runs, and its request behind them.
+-- The parts of an entry's text: its numbers, its runs, and its request after them.
 use Rattle.std.specs.Prelude.{ℕ, ℤ, List, ◌++◌, Option, Result, Ok, codes, decimal}
 use Rattle.words.specs.Reading.{◌>>=◌, map_refusal}
 use Rattle.history_types.specs.declared.entry.Entry.{Entry}
@@ -13,19 +13,19 @@ use Rattle.history_log.specs.Entry.{spaced, before_gap}
 
 -- ---- as they are printed
 
--- the word and the numbers, each with a space behind it
+-- the word and the numbers, each with a space after it
 abbrev pub numbers_text : Entry → List ℕ
 numbers_text entry =
     spaced (codes "entry")
     ++ (spaced (decimal entry.who) ++ (spaced (optional_text entry.seq) ++ spaced (optional_text entry.next)))
 
--- the named and the given ids, each with a space behind them
+-- the named and the given ids, each with a space after them
 abbrev pub ids_text : Entry → List ℕ
 ids_text entry = spaced (runs_text entry.named) ++ spaced (runs_text entry.given)
 
 -- ---- as they are read
 
--- the place behind the word and the gap after it
+-- the place after the word and the gap after it
 abbrev pub start_at : List ℕ → Result ℕ PieceRefusal
 start_at text = word_at (codes "entry") text 0 >>= λ after. gap_at text after
 

@@ -1,4 +1,4 @@
--- Requests as they stand in a text.
+-- Requests as they are in a text.
 use Rattle.std.specs.Prelude.{ℕ, zero, suc, ◌+◌, ◌-◌, ◌==◌, Bool, List, [], ◌∷◌, ◌++◌, length, Option, Some, None}
 use Rattle.std.specs.Prelude.{Result, Ok, Err, codes, if◌then◌else◌}
 use Rattle.std.specs.List.{flat_map, list_any}
@@ -19,7 +19,7 @@ use Rattle.history_log.specs.Refusal.{of_piece, of_cells}
 
 -- ---- as they are printed
 
--- a row behind another one
+-- a row after another one
 abbrev pub next_row_text : List Cell → List ℕ
 next_row_text cells = codes " ; " ++ cells_text cells
 
@@ -28,7 +28,7 @@ abbrev pub rows_text : List (List Cell) → List ℕ
 rows_text [] = []
 rows_text (row ∷ rows) = cells_text row ++ flat_map next_row_text rows
 
--- a path behind the word or another path
+-- a path after the word or another path
 abbrev pub next_path_text : List ℕ → List ℕ
 next_path_text path = codes " " ++ literal_text path
 
@@ -66,7 +66,7 @@ is_repeated read path = list_any (λ other. bytes_eq other path) read
 abbrev pub new_path : List (List ℕ) → List ℕ × ℕ → Result (List ℕ × ℕ) PieceRefusal
 new_path read (path, after) = if is_repeated read path then Err (Syntax (after - 1)) else Ok (path, after)
 
--- a path behind those that were read
+-- a path after those that were read
 abbrev pub path_at : List ℕ → List (List ℕ) → ℕ → Result (List ℕ × ℕ) HistoryRefusal
 path_at input read place = map_refusal of_piece (literal_at input place >>= λ literal. new_path read literal)
 
@@ -75,7 +75,7 @@ abbrev pub paths_at : List ℕ → ℕ → Result (List (List ℕ)) HistoryRefus
 paths_at input place =
     map_value (λ read. read.0) (many (path_at input) (or_end gap_at input) (length input + 1) [] place)
 
--- paths behind a gap, or none at the end
+-- paths after a gap, or none at the end
 abbrev pub paths_or_end : List ℕ → Option ℕ → Result (List (List ℕ)) HistoryRefusal
 paths_or_end input None = Ok []
 paths_or_end input (Some start) = paths_at input start

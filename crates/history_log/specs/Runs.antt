@@ -1,4 +1,4 @@
--- Runs of ids as they stand in a text: each as its first id, a plus sign and how many there are;
+-- Runs of ids as they are in a text: each as its first id, a plus sign and how many there are;
 -- a minus sign if there is none.
 use Rattle.std.specs.Prelude.{ℕ, ◌+◌, ◌-◌, ℤ, pos, negsuc, ◌+ℤ◌, int_lt, Bool, false, not, ◌&&◌, List, [], ◌∷◌, ◌++◌}
 use Rattle.std.specs.Prelude.{length, slice_get, Option, Some, None, Result, Ok, Err, codes, if◌then◌else◌}
@@ -19,7 +19,7 @@ use Rattle.pieces.specs.Many.{many}
 abbrev pub run_text : Run → List ℕ
 run_text run = signed_decimal run.first ++ (codes "+" ++ signed_decimal run.count)
 
--- a run behind another one
+-- a run after another one
 abbrev pub next_run_text : Run → List ℕ
 next_run_text run = codes "," ++ run_text run
 
@@ -41,7 +41,7 @@ abbrev pub may_grow : ℤ → Bool
 may_grow first =
     not (int_eq first (pos 0)) && int_lt (negsuc 922337203685477580) first && int_lt first (pos 922337203685477581)
 
--- where a first id at which the run before goes on stops: at the byte behind it,
+-- where a first id at which the run before goes on stops: at the byte after it,
 -- or at its last digit if no digit may follow
 abbrev pub stop_of : ℤ → ℕ → ℕ
 stop_of first after = if may_grow first then after else after - 1
@@ -51,27 +51,27 @@ stop_of first after = if may_grow first then after else after - 1
 abbrev pub stop_past : List Run → Passed → ℕ
 stop_past read passed = if goes_on read passed.front then stop_of passed.front passed.place else passed.place
 
--- a first id behind runs, which is of 64 bits
+-- a first id after runs, which is of 64 bits
 abbrev pub first_of : List Run → Signed → Result (ℤ × ℕ) PieceRefusal
 first_of read (Ok first) = Ok first
 first_of read (Err passed) = Err (Syntax (stop_past read passed))
 
--- the first id of a run behind those that were read
+-- the first id of a run after those that were read
 abbrev pub first_at : List ℕ → List Run → ℕ → Result (ℤ × ℕ) PieceRefusal
 first_at input read place = signed_at input place >>= first_of read
 
--- the plus sign behind a first id; no run begins where the one before it goes on
+-- the plus sign after a first id; no run begins where the one before it goes on
 abbrev pub plus_at : List Run → ℤ → List ℕ → ℕ → Result ℕ PieceRefusal
 plus_at read first input place =
     if goes_on read first then Err (Syntax (stop_of first place)) else byte_at 43 input place
 
--- a run behind those that were read
+-- a run after those that were read
 abbrev pub run_at : List ℕ → List Run → ℕ → Result (Run × ℕ) PieceRefusal
 run_at input read place =
     first_at input read place >>= λ first. plus_at read first.0 input first.1 >>= λ start.
     count_at input start >>= λ count. Ok (record { first = first.0; count = count.0 }, count.1)
 
--- a comma behind a run says that there is another one
+-- a comma after a run says that there is another one
 abbrev pub comma_at : List ℕ → ℕ → Result (Option ℕ) PieceRefusal
 comma_at input place = Ok (if is_this 44 (slice_get input place) then Some (place + 1) else None)
 

@@ -67,7 +67,7 @@ fn take_numbers(text: &str) -> Result<(u64, Option<i64>, Option<i64>, usize), Hi
     Ok((who, seq, next, after))
 }
 
-/// The place behind the word and the gap after it.
+/// The place after the word and the gap after it.
 fn take_start(text: &str) -> Result<usize, PieceRefusal>
     ensures exact { result ≡ start_at text.now }
     ensures within { IfOk result (λ start. start ≤ length text.now) }
@@ -89,7 +89,7 @@ fn take_ids(alloc: Global, text: &str, place: usize) -> Result<(Runs, Runs, usiz
     Ok((named, given, after))
 }
 
-/// What was read, and the place behind the gap after it.
+/// What was read, and the place after the gap after it.
 fn before_gap<X: Drop>(
     text: &str,
     read: Result<(X, usize), PieceRefusal>,
@@ -103,7 +103,7 @@ fn before_gap<X: Drop>(
     Ok((piece, start))
 }
 
-/// Puts the word and the numbers behind `out`, each with a space behind it.
+/// Appends the word and the numbers to `out`, each with a space after it.
 fn put_numbers(out: &mut String, entry: &Entry) -> Result<(), AllocError>
     ensures { OnOk result (string_bytes out.new
         ≡ string_bytes out.old ++ numbers_text entry.now) }
@@ -117,7 +117,7 @@ fn put_numbers(out: &mut String, entry: &Entry) -> Result<(), AllocError>
     out.push_str(" ")
 }
 
-/// Puts the named and the given ids behind `out`, each with a space behind them.
+/// Appends the named and the given ids to `out`, each with a space after them.
 fn put_ids(out: &mut String, entry: &Entry) -> Result<(), AllocError>
     ensures { OnOk result (string_bytes out.new ≡ string_bytes out.old ++ ids_text entry.now) }
 {

@@ -101,7 +101,7 @@ fn count_of(run: &Run) -> u64
     if run.count > 0 { run.count as u64 } else { 0 }
 }
 
-/// Whether the ids of the runs, one list behind the other, rise from `low` on to below `high`.
+/// Whether the ids of the runs, one list after the other, rise from `low` on to below `high`.
 fn rise_within(low: i64, high: i64, named: &[Run], given: &[Run]) -> bool
     ensures { result ≡ rise_within low high (ids_of named.now ++ ids_of given.now) }
 {
@@ -114,7 +114,7 @@ fn rise_within(low: i64, high: i64, named: &[Run], given: &[Run]) -> bool
     last <= high
 }
 
-/// The number behind the last id, or `low` where there is none. None: the ids don't rise from `low`
+/// The number after the last id, or `low` if there is none. None: the ids don't rise from `low`
 /// on, or the number is no i64.
 fn behind_all(low: i64, runs: &[Run]) -> Option<i64>
     ensures { (high : ℤ) (rest : List ℤ) → high <ℤ pos (2 ^ 63)
@@ -127,7 +127,7 @@ fn behind_all(low: i64, runs: &[Run]) -> Option<i64>
     Some(floor)
 }
 
-/// The number behind the run's last id, or `floor` where it has none. None: the first id is below
+/// The number after the run's last id, or `floor` where it has none. None: the first id is below
 /// `floor`, or the number is no i64.
 fn behind(floor: i64, run: &Run) -> Option<i64>
     ensures { (high : ℤ) (rest : List ℤ) → high <ℤ pos (2 ^ 63)

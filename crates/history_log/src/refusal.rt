@@ -24,7 +24,7 @@ pub enum HistoryRefusal {
     /// The entry, counted from 1, breaks this rule, and none before it. Entry 0 is the state that
     /// the history begins with.
     Illegal { entry: u64, rule: Rule },
-    /// There was no memory.
+    /// Memory ran out.
     Memory,
 }
 

@@ -43,7 +43,7 @@ pub fn print_request(alloc: Global, request: &Request) -> Result<Text, AllocErro
     Ok(Text::from_string(out))
 }
 
-/// The request from `place`, a count of bytes from 0, to the end of the text.
+/// The request from `place`, a byte offset from 0, to the end of the text.
 pub fn take_request(
     alloc: Global,
     text: &str,
@@ -60,7 +60,7 @@ pub fn take_request(
     take_behind(alloc, text, after, index, columns.as_slice())
 }
 
-/// Puts the text of the request behind `out`.
+/// Appends the text of the request to `out`.
 pub fn put_request(out: &mut String, request: &Request) -> Result<(), AllocError>
     ensures { OnOk result (string_bytes out.new
         ≡ string_bytes out.old ++ request_text request.now) }
@@ -97,7 +97,7 @@ fn take_behind(
     }
 }
 
-/// An append, behind its word.
+/// An append, after its word.
 fn take_append(
     alloc: Global,
     text: &str,
@@ -112,7 +112,7 @@ fn take_append(
     Ok(Request::Append(take_rows(alloc, text, start, columns)?))
 }
 
-/// A compaction, behind its word.
+/// A compaction, after its word.
 fn take_compact(alloc: Global, text: &str, place: usize) -> Result<Request, HistoryRefusal>
     requires { place ≤ length text.now }
     ensures exact { Gives is_memory (λ request. request) result
@@ -122,7 +122,7 @@ fn take_compact(alloc: Global, text: &str, place: usize) -> Result<Request, Hist
     Ok(Request::Compact(take_paths_or_end(alloc, text, next)?))
 }
 
-/// An upgrade, behind its word.
+/// An upgrade, after its word.
 fn take_upgrade(text: &str, place: usize) -> Result<Request, HistoryRefusal>
     requires { place ≤ length text.now }
     ensures exact { Gives is_memory (λ request. request) result
@@ -233,7 +233,7 @@ fn path_end(text: &str, place: usize) -> Result<Option<usize>, HistoryRefusal>
     Ok(Some(take_gap(text, place)?))
 }
 
-/// Puts the text of the rows behind `out`.
+/// Appends the text of the rows to `out`.
 fn put_rows(out: &mut String, rows: &[Cells]) -> Result<(), AllocError>
     ensures { OnOk result (string_bytes out.new ≡ string_bytes out.old ++ rows_text rows.now) }
 {
@@ -244,7 +244,7 @@ fn put_rows(out: &mut String, rows: &[Cells]) -> Result<(), AllocError>
     put_next_rows(out, others)
 }
 
-/// Puts the text of the rows that stand behind another one.
+/// Puts the text of the rows after another one.
 fn put_next_rows(out: &mut String, rows: &[Cells]) -> Result<(), AllocError>
     ensures { OnOk result (string_bytes out.new
         ≡ string_bytes out.old ++ flat_map next_row_text rows.now) }
@@ -256,7 +256,7 @@ fn put_next_rows(out: &mut String, rows: &[Cells]) -> Result<(), AllocError>
     Ok(())
 }
 
-/// Puts the text of the paths that stand behind a word or another path.
+/// Puts the text of the paths after a word or another path.
 fn put_paths(out: &mut String, paths: &[Text]) -> Result<(), AllocError>
     ensures { OnOk result (string_bytes out.new
         ≡ string_bytes out.old ++ flat_map next_path_text paths.now) }

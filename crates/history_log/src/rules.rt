@@ -96,7 +96,7 @@ fn breaks_seq(tally: &Tally, entry: &Entry) -> bool
     }
 }
 
-/// Whether the next id is there in version 2, absent in version 3, or not 0 behind an upgrade.
+/// Whether the next id is there in version 2, absent in version 3, or not 0 after an upgrade.
 fn breaks_next(tally: &Tally, entry: &Entry) -> bool
     ensures { result ≡ breaks_next (blank tally.now) entry.now }
 {
@@ -182,7 +182,7 @@ pub fn appended(request: &Request) -> usize
     }
 }
 
-/// Whether the number is there, and is the one behind `before`.
+/// Whether the number is there, and is the one after `before`.
 fn is_behind(before: i64, number: Option<i64>) -> bool
     ensures { result ≡ is_this (before +ℤ pos 1) number }
 {

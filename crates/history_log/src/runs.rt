@@ -16,7 +16,7 @@ use pieces::{
 };
 use std::alloc::{AllocError, Global};
 
-/// The runs at `place`, a count of bytes from 0, and the place after them.
+/// The runs at `place`, a byte offset from 0, and the place after them.
 pub fn take_runs(alloc: Global, text: &str, place: usize) -> Result<(Runs, usize), PieceRefusal>
     requires { place ≤ length text.now }
     ensures exact { Gives is_memory_of_piece (λ read. read) result (runs_at text.now place) }
@@ -39,7 +39,7 @@ pub fn take_runs(alloc: Global, text: &str, place: usize) -> Result<(Runs, usize
     }
 }
 
-/// Puts the text of the runs behind `out`.
+/// Appends the text of the runs to `out`.
 pub fn put_runs(out: &mut String, runs: &Runs) -> Result<(), AllocError>
     ensures { OnOk result (string_bytes out.new ≡ string_bytes out.old ++ runs_text runs.now) }
 {
@@ -50,7 +50,7 @@ pub fn put_runs(out: &mut String, runs: &Runs) -> Result<(), AllocError>
     put_others(out, others)
 }
 
-/// The run behind those that were read.
+/// The run after those that were read.
 fn take_run(text: &str, place: usize, read: &[Run]) -> Result<(Run, usize), PieceRefusal>
     requires { place ≤ length text.now }
     ensures exact { result ≡ run_at text.now read.now place }
@@ -64,7 +64,7 @@ fn take_run(text: &str, place: usize, read: &[Run]) -> Result<(Run, usize), Piec
     Ok((Run { first, count }, end))
 }
 
-/// The first id of a run behind those that were read.
+/// The first id of a run after those that were read.
 fn take_first(text: &str, place: usize, read: &[Run]) -> Result<(i64, usize), PieceRefusal>
     requires { place ≤ length text.now }
     ensures exact { result ≡ first_at text.now read.now place }
@@ -90,7 +90,7 @@ fn stop_past(read: &[Run], passed: Passed) -> usize
     }
 }
 
-/// The place behind the plus sign after a first id; no run begins where the one before it goes on.
+/// The place after the plus sign after a first id; no run begins where the one before it goes on.
 fn take_plus(text: &str, place: usize, read: &[Run], first: i64) -> Result<usize, PieceRefusal>
     requires { place ≤ length text.now }
     ensures exact { result ≡ plus_at read.now first text.now place }
@@ -122,7 +122,7 @@ fn ends_before(run: &Run, first: i64) -> bool
     run.first.checked_add(run.count) == Some(first)
 }
 
-/// Where a first id stops at which the run before goes on: at the byte behind it, or at its last
+/// Where a first id stops at which the run before goes on: at the byte after it, or at its last
 /// digit, where no digit may follow.
 fn stop_of(first: i64, after: usize) -> usize
     ensures { result ≡ stop_of first after }
@@ -141,7 +141,7 @@ fn may_grow(first: i64) -> bool
     first != 0 && -922_337_203_685_477_581 < first && first < 922_337_203_685_477_581
 }
 
-/// Puts the text of the run behind `out`.
+/// Appends the text of the run to `out`.
 fn put_run(out: &mut String, run: &Run) -> Result<(), AllocError>
     ensures { OnOk result (string_bytes out.new ≡ string_bytes out.old ++ run_text run.now) }
 {
@@ -150,7 +150,7 @@ fn put_run(out: &mut String, run: &Run) -> Result<(), AllocError>
     put_long(out, run.count)
 }
 
-/// Puts the text of the runs that stand behind another one.
+/// Puts the text of the runs after another one.
 fn put_others(out: &mut String, runs: &[Run]) -> Result<(), AllocError>
     ensures { OnOk result (string_bytes out.new
         ≡ string_bytes out.old ++ flat_map next_run_text runs.now) }

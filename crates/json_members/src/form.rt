@@ -20,7 +20,7 @@ pub enum Form {
     Natural,
     /// A whole number of 32 bits with a sign.
     Int,
-    /// A truth value.
+    /// A boolean.
     Flag,
     /// A list.
     List,
@@ -28,14 +28,14 @@ pub enum Form {
     Object,
 }
 
-/// The value as a whole number of 64 bits with a sign. `None`: it is none.
+/// The value as a whole number of 64 bits with a sign. `None`: it isn't one.
 pub fn long_of(value: &Value) -> Option<i64>
     ensures { result ≡ spec.long_of (view value.now) }
 {
     value.as_i64()
 }
 
-/// The value as a whole number from 0 to 2^63 - 1. `None`: it is none.
+/// The value as a whole number from 0 to 2^63 - 1. `None`: it isn't one.
 pub fn natural_of(value: &Value) -> Option<i64>
     ensures { result ≡ spec.natural_of (view value.now) }
 {
@@ -43,7 +43,7 @@ pub fn natural_of(value: &Value) -> Option<i64>
     if number < 0 { None } else { Some(number) }
 }
 
-/// The value as a whole number of 32 bits with a sign. `None`: it is none.
+/// The value as a whole number of 32 bits with a sign. `None`: it isn't one.
 pub fn int_of(value: &Value) -> Option<i32>
     ensures { result ≡ spec.int_of (view value.now) }
 {

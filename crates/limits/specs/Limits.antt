@@ -9,7 +9,12 @@ most_object = 67108864
 abbrev pub most_rows : ℕ
 most_rows = 1048576
 
--- a data file of so many bytes and rows is within the limits
-pub record IsWithinLimits (bytes rows : ℕ) : Type 0 where
-  pub size : bytes ≤ most_object
-  pub few : rows ≤ most_rows
+-- what of a data file has a limit: how many bytes and rows it has
+pub record FileSize : Type 0 where
+  pub bytes : ℕ
+  pub rows : ℕ
+
+-- a data file of this size is within the limits
+pub record IsWithinLimits (size : FileSize) : Type 0 where
+  pub bytes : size.bytes ≤ most_object
+  pub rows : size.rows ≤ most_rows

@@ -3,7 +3,7 @@ use Rattle.std.specs.Prelude.{◌≡◌, ℕ, ◌^◌, ◌<◌, List, [], ◌∷
 use Rattle.lineage_cli.specs.declared.command.Command.{Command}
 use Rattle.lineage_cli.specs.declared.command.Command.TheVariants.{Rows, Audit}
 
--- the word of a first row id: the id in decimal without sign or leading zero, or - where there is none
+-- the word of a first row id: the id in decimal without sign or leading zero, or - if there is none
 abbrev pub first_word : Option ℕ → List ℕ
 first_word None = codes "-"
 first_word (Some id) = decimal id

@@ -66,7 +66,7 @@ class_of (Illegal entry rule) = classes.Refused about.Rule
 abbrev pub status_of : Ending → ℕ
 status_of ending = class_status (class_of ending)
 
--- what the line has behind the word of the class, if anything
+-- what the line has after the word of the class, if anything
 abbrev pub ending_text : Ending → List ℕ
 ending_text Usage = []
 ending_text (Table refusal) = refusal_text refusal

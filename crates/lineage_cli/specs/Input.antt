@@ -23,7 +23,7 @@ StopsBy most before now Fault = (piece : List ℕ) × Consumes before now piece 
 StopsBy most before now Limit = (piece : List ℕ) × Consumes before now piece × (length piece ≡ most + 1)
 StopsBy most before now Memory = Unit {0}
 
--- bytes from the front of those that were left came behind those before, at most so many
+-- bytes from the beginning of those that were left came after those before, at most so many
 pub record Reads (left leaves : Option (List ℕ)) (before now : List ℕ) (most : ℕ) : Type 0 where
   pub piece : List ℕ
   pub parts : now ≡ before ++ piece

@@ -33,7 +33,7 @@ pub fn command_of(words: &[Text]) -> Option<Command>
     }
 }
 
-/// The first row id that the word stands for: a number of 63 bits, or `-` for none. `None` where
+/// The first row id that the word stands for: a number of 63 bits, or `-` for none. `None` if
 /// it stands for neither.
 fn first_id(word: &str) -> Option<Option<u64>>
     ensures { MatchOption result
@@ -47,7 +47,7 @@ fn first_id(word: &str) -> Option<Option<u64>>
 }
 
 /// The number of 63 bits that the word is the decimal text of, without sign or leading zero; None
-/// where it is none.
+/// if it is none.
 fn natural(word: &str) -> Option<u64>
     ensures { MatchOption result
         ((n : ℕ) → n < 2 ^ 63 → word.now ≡ decimal n → ⊥)

@@ -39,7 +39,7 @@ pub enum Ending {
     Illegal { entry: u64, rule: Rule },
     /// The output failed.
     OutFault,
-    /// There was no memory.
+    /// Memory ran out.
     Memory,
 }
 
@@ -50,7 +50,7 @@ pub fn status_of(ending: &Ending) -> u8
     status_of_class(class_of(ending))
 }
 
-/// Writes the line, or the front of it where `err` fails: that is passed over.
+/// Writes the line, or the beginning of it where `err` fails: that is ignored.
 pub fn tell<E: Sink>(alloc: Global, err: &mut E, ending: &Ending)
     ensures { IsTold (line_of ending.now)
         (record { bytes = E.written err.old; faults = E.faults err.old })
@@ -103,7 +103,7 @@ fn write_line<E: Sink>(alloc: Global, err: &mut E, ending: &Ending) -> Result<()
     write_all(err, b"\n")
 }
 
-/// What the line has behind the word of the class.
+/// What the line has after the word of the class.
 fn told_of(ending: &Ending) -> Told<'_>
     ensures { told_text result ≡ spaced (ending_text ending.now) }
 {

@@ -17,9 +17,9 @@ const PIECE_BYTES: usize = 65_536;
 pub enum InputRefusal {
     /// The source failed.
     Fault,
-    /// There are more bytes than may be. Of those above the limit one was read.
+    /// There are more bytes than may be. One byte above the limit was read.
     Limit,
-    /// There was no memory.
+    /// Memory ran out.
     Memory,
 }
 
@@ -43,7 +43,7 @@ pub fn read_all<S: Source>(
     read_into(alloc, input, &mut room, most)
 }
 
-/// So many zero bytes. An `Err` says that memory ran out.
+/// `count` zero bytes. An `Err` says that memory ran out.
 pub fn zeros(alloc: Global, count: usize) -> Result<Vec<u8>, AllocError>
     ensures { IfOk result (λ room. length room.items ≡ count) }
 {
@@ -76,7 +76,7 @@ fn read_into<S: Source>(
     Err(InputRefusal::Limit)
 }
 
-/// Reads one piece of what the source has left behind `bytes`, into `room` on the way. It answers
+/// Reads one piece of what the source has left after `bytes`, into `room` on the way. It answers
 /// whether there was any.
 fn read_piece<S: Source>(
     input: &mut S,

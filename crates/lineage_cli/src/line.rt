@@ -39,7 +39,7 @@ fn write_word<E: Sink>(err: &mut E, word: &str) -> Result<(), PortError>
     write_spaced(err, word.as_bytes())
 }
 
-/// Writes what stands behind the word.
+/// Writes what follows the word.
 fn write_detail<E: Sink>(alloc: Global, err: &mut E, detail: Detail<'_>) -> Result<(), PortError>
     ensures text { Puts (E.written err.old) (E.written err.new) result (detail_text detail.entry) }
     ensures cause { HasCause (E.faults err.old) (E.faults err.new)

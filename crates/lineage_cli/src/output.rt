@@ -55,7 +55,7 @@ impl Buffer {
         Ok(Buffer { room, used: 0 })
     }
 
-    /// Puts the piece behind what waits.
+    /// Appends the piece to what waits.
     #[inline(always)]
     pub fn push(&mut self, piece: &[u8])
         requires fits { length self.old + length piece.now ≤ BUFFER_BYTES }
@@ -64,7 +64,7 @@ impl Buffer {
         self.used = put_piece(&mut self.room, self.used, piece);
     }
 
-    /// Puts the number in decimal behind what waits.
+    /// Appends the number in decimal to what waits.
     #[inline(always)]
     pub fn push_number(&mut self, number: i64)
         requires fits { length self.old + 20 ≤ BUFFER_BYTES }
@@ -74,7 +74,7 @@ impl Buffer {
         self.used = put_number(&mut self.room, self.used, number);
     }
 
-    /// Puts the cell behind what waits.
+    /// Appends the cell to what waits.
     #[inline(always)]
     pub fn push_cell(&mut self, cell: CellRef<'_>)
         requires fits { length self.old + most_bytes_of (lent_cell cell) ≤ BUFFER_BYTES }
@@ -83,7 +83,7 @@ impl Buffer {
         self.used = put_cell(&mut self.room, self.used, cell);
     }
 
-    /// Puts a part of a long cell behind what waits.
+    /// Appends a part of a long cell to what waits.
     pub fn push_part(&mut self, form: Form, part: &[u8])
         requires fits { length self.old + 2 * length part.now ≤ BUFFER_BYTES }
         ensures put { self.new ≡ self.old ++ part_text form part.now }
@@ -108,7 +108,7 @@ pub fn write_all<W: Sink>(out: &mut W, piece: &[u8]) -> Result<(), PortError>
     Ok(())
 }
 
-/// Puts the piece behind what waits in the buffer. What waits is written first if there is no room
+/// Appends the piece to what waits in the buffer. What waits is written first if there is no room
 /// for the piece.
 pub fn put<W: Sink>(out: &mut W, buffer: &mut Buffer, piece: &[u8]) -> Result<(), PortError>
     requires fits { length piece.now ≤ BUFFER_BYTES }

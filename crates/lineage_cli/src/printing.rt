@@ -105,7 +105,7 @@ fn put_row<W: Sink>(
     put(out, buffer, b"\n")
 }
 
-/// Puts what stands before the cells of a row: its id and its last change, each with a space.
+/// Puts what comes before the cells of a row: its id and its last change, each with a space.
 fn put_front<W: Sink>(
     out: &mut W,
     buffer: &mut Buffer,
@@ -166,7 +166,7 @@ fn put_cells<W: Sink>(
     put_others(out, buffer, others)
 }
 
-/// Puts the cells that stand behind another one, each with a space before it.
+/// Puts the cells after another one, each with a space before it.
 #[tactic(auto, using(crate::proofs::PrintLemmas::cell_by_cell))]
 fn put_others<W: Sink>(
     out: &mut W,
@@ -185,7 +185,7 @@ fn put_others<W: Sink>(
     Ok(())
 }
 
-/// Puts what stands before the cell, which is a space or nothing, and the cell.
+/// Puts what comes before the cell, which is a space or nothing, and the cell.
 #[inline(always)]
 fn put_cell<W: Sink>(
     out: &mut W,
@@ -279,7 +279,7 @@ fn put_parts<W: Sink>(
     Ok(())
 }
 
-/// The bytes of the next part, and those behind it.
+/// The bytes of the next part, and those after it.
 fn next_part(bytes: &[u8]) -> (&[u8], &[u8])
     requires { 0 < length bytes.now }
     ensures whole { bytes.now ≡ result.0.now ++ result.1.now }

@@ -15,7 +15,7 @@ pub record Asked : Type 0 where
 abbrev pub nothing : Asked
 nothing = record { adds = []; changes = []; removes = [] }
 
--- what the request asks in this state; None where it can't be done
+-- what the request asks in this state; None if it can't be done
 abbrev pub asked : Request → State → Option Asked
 asked (Append rows) state = Some (record { adds = rows; changes = []; removes = [] })
 asked (Compact paths) state = Some nothing

@@ -17,7 +17,7 @@ how_many (negsuc count) = 0
 abbrev pub ids_of_run : Run → List ℤ
 ids_of_run run = ids_from run.first (how_many run.count)
 
--- the ids of runs, one run behind the other
+-- the ids of runs, one run after the other
 abbrev pub ids_of : List Run → List ℤ
 ids_of runs = flat_map ids_of_run runs
 

@@ -54,7 +54,7 @@ abbrev pub breaks_seq : State → Entry → Bool
 breaks_seq state entry =
     if is_upgrade entry.request then is_some entry.seq else not (is_this (state.seq +ℤ pos 1) entry.seq)
 
--- the next id is there in version 2, absent in version 3, or not 0 behind an upgrade
+-- the next id is there in version 2, absent in version 3, or not 0 after an upgrade
 abbrev pub breaks_next : State → Entry → Bool
 breaks_next state entry =
     if version_after state entry.request == 2 then is_some entry.next

@@ -102,7 +102,7 @@ pub fn rows_get_their_ids_in_order(before: &State, entry: &Entry, after: &State)
         → length (ids_of entry.now.given) ≡ length rows }
 {}
 
-/// An append in version 2 puts its rows behind those without id, changed last at the new sequence
+/// An append in version 2 puts its rows after those without id, changed last at the new sequence
 /// number, and names no row.
 pub fn an_append_of_version_2_names_no_row(before: &State, entry: &Entry, after: &State)
     requires step { LegalStep before.now entry.now after.now }

@@ -59,7 +59,7 @@ impl<T: Keyed> Distinct<T> {
         self.keys.contains(key)
     }
 
-    /// The items, in the order in which they came, lent.
+    /// The items, in the order in which they came, borrowed.
     pub fn as_slice(&self) -> &[T]
         ensures value { result.now ≡ self.now }
         ensures distinct { AreDistinctBy T.key self.now }

@@ -48,7 +48,7 @@ impl<T> List<T> {
         self.items
     }
 
-    /// The items, lent.
+    /// The items, borrowed.
     pub fn as_slice(&self) -> &[T]
         ensures { result.now ≡ self.now }
     {

@@ -23,7 +23,7 @@ pub record SinkState : Type 0 where
 abbrev pub one_more : ℕ → ℕ
 one_more count = min (count + 1) (2 ^ 64 - 1)
 
--- the count of faults behind a refused write: memory is no fault of the outside
+-- the count of faults after a refused write: memory is no fault of the outside
 abbrev pub faults_after : ℕ → PortError → ℕ
 faults_after faults Failed = one_more faults
 faults_after faults Memory = faults

@@ -9,6 +9,6 @@ pub struct Failed;
 pub enum PortError {
     /// The outside failed: its count of faults says so.
     Failed,
-    /// There was no memory.
+    /// Memory ran out.
     Memory,
 }

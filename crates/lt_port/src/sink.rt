@@ -15,7 +15,7 @@ pub trait Sink {
     /// How many of its calls have failed, counted up to u64::MAX.
     ghost faults: { Self → ℕ };
 
-    /// Writes bytes from the front of `piece` behind those that were written, and answers how many:
+    /// Writes bytes from the beginning of `piece` after those that were written, and answers how many:
     /// at least one of a piece that isn't empty. A refused call moves nothing.
     fn write(&mut self, piece: &[u8]) -> Result<usize, PortError>
         ensures bound { WritesAtMost result piece.now }

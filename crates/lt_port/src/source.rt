@@ -15,7 +15,7 @@ pub trait Source {
     /// How many of its calls have failed, counted up to u64::MAX.
     ghost faults: { Self → ℕ };
 
-    /// Moves bytes from the front of those that are left to the front of `room`, and answers how
+    /// Moves bytes from the beginning of those that are left to the beginning of `room`, and answers how
     /// many. Where `room` isn't empty, 0 is the end. A refused call moves nothing.
     fn read(&mut self, room: &mut [u8]) -> Result<usize, Failed>
         ensures bound { ReadsAtMost result room.new }

@@ -1,4 +1,4 @@
--- The objects of a container's blocks, one behind the other, up to the first refusal.
+-- The objects of a container's blocks, in order, up to the first refusal.
 -- Avro 1.11, "Object Container Files".
 use Rattle.std.specs.Prelude.{ℕ, zero, suc, ◌+◌, ◌==◌, ℤ, pos, negsuc, List, [], ◌∷◌, length, Result, if◌then◌else◌}
 use Rattle.avro_container.specs.declared.container.Block.{Block}
@@ -19,7 +19,7 @@ abbrev pub count_all : List Block → ℕ
 count_all [] = 0
 count_all (block ∷ blocks) = count_of block + count_all blocks
 
--- so many objects of a block, from the place on, and those behind it; the block must end behind the last one
+-- so many objects of a block, from the place on, and those after it; the block must end after the last one
 unfoldable pub block_from : {V E : Type 0} → Reader V E → E → List ℕ → Stream V E → ℕ → ℕ → Stream V E
 block_from read rest input behind zero place = if place == length input then behind else refused rest
 block_from read rest input behind (suc left) place =

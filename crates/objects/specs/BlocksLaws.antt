@@ -13,7 +13,7 @@ use Rattle.objects.specs.Left.{left_of, IsWithoutFirst, IsBegun}
 
 -- ---- the end of a block
 
--- the others follow if the block ends behind its last object
+-- the others follow if the block ends after its last object
 pub block_done : {V E : Type 0} (read : Reader V E) (rest : E) (input : List ℕ) (behind : Stream V E) (left place : ℕ)
     → left ≡ 0 → place ≡ length input → block_from read rest input behind left place ≡ behind
 unfolding block_from
@@ -38,7 +38,7 @@ unfolding block_from
 next_is read rest input behind left place some =
     ap (λ (n : ℕ). block_from read rest input behind n place) (one_less left some)
 
--- it is taken, and so many are left behind it
+-- it is taken, and so many are left after it
 pub block_more : {V E : Type 0} (read : Reader V E) (rest : E) (input : List ℕ) (behind : Stream V E) (left place : ℕ)
     (x : V) (after : ℕ) → read input place ≡ Ok (x, after)
     → block_from read rest input behind (suc left) place ≡ before x (block_from read rest input behind left after)
@@ -61,7 +61,7 @@ block_fails read rest input behind left place e some fails =
     next_is read rest input behind left place some
     ∙ ap (λ (r : Result _ _). with_first r (block_from read rest input behind (left - 1))) fails
 
--- it is passed over
+-- it is ignored
 pub block_passed : {V E : Type 0} (read : Reader V E) (rest : E) (input : List ℕ) (behind : Stream V E)
     (left place after : ℕ) → 0 < left → place_behind (read input place) ≡ Ok after
     → IsWithoutFirst (block_from read rest input behind left place) (block_from read rest input behind (left - 1) after)
@@ -75,7 +75,7 @@ refused_as : {V E : Type 0} (read : Result (V × ℕ) E) (e : E) → place_behin
 refused_as (Ok taken) e is = absurd cc
 refused_as (Err d) e is = cc
 
--- it is refused, and so not passed over
+-- it is refused, and so not ignored
 pub block_stays : {V E : Type 0} (read : Reader V E) (rest : E) (input : List ℕ) (behind : Stream V E) (left place : ℕ)
     (e : E) → 0 < left → place_behind (read input place) ≡ Err e
     → block_from read rest input behind left place ≡ refused e

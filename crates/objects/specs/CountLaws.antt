@@ -9,7 +9,7 @@ use Rattle.objects.specs.Stream.{Stream, refused, with_first}
 use Rattle.objects.specs.Blocks.{block_from, count_of, count_all, blocks_from}
 use Rattle.objects.specs.Held.{Hold}
 
--- without a fault the stream has so many objects, and then those behind them
+-- without a fault the stream has so many objects, and then those after them
 abbrev Counted : {V E : Type 0} → ℕ → Stream V E → Stream V E → Type 0
 Counted left behind stream =
     stream.fault ≡ None → (behind.fault ≡ None) × (length stream.objects ≡ left + length behind.objects)

@@ -5,12 +5,12 @@ use Rattle.avro_wire.specs.Blocks.{SpellsItems}
 use Rattle.avro_container.specs.declared.container.Block.{Block}
 use Rattle.objects.specs.Blocks.{count_of}
 
--- the block has as many objects as it says, one behind the other, and no byte more
+-- the block has as many objects as it says, in order, and no byte more
 pub record HoldsBlock {V : Type 0} (Spells : V → List ℕ → Type 0) (objects : List V) (block : Block) : Type 0 where
   pub many : count_of block ≡ length objects
   pub spelled : SpellsItems Spells objects block.bytes
 
--- the objects are those of one block, and behind them those of the others
+-- the objects are those of one block, and after them those of the others
 pub record AreParted {V : Type 0} (First Others : List V → Type 0) (objects : List V) : Type 0 where
   pub front : List V
   pub rest : List V

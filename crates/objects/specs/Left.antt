@@ -5,7 +5,7 @@ use Rattle.objects.specs.Object.{Reader}
 use Rattle.objects.specs.Stream.{Stream, ended, refused, before}
 use Rattle.objects.specs.Blocks.{block_from, blocks_from}
 
--- the objects that are left of the block that was begun, and those of the blocks behind it
+-- the objects that are left of the block that was begun, and those of the blocks after it
 abbrev pub left_of : {V E : Type 0} → Reader V E → (ℕ → E) → Rest → Stream V E
 left_of read rest r =
     block_from read (rest r.number) r.block.now (blocks_from read rest (r.number + 1) r.walk.left) r.left r.place
@@ -27,13 +27,13 @@ pub record IsWithoutFirst {V E : Type 0} (old new : Stream V E) : Type 0 where
   pub first : V
   pub parts : old ≡ before first new
 
--- one object more is passed over; or there is none; or the next one is refused, and is still the next one
+-- one object more is ignored; or there is none; or the next one is refused, and is still the next one
 abbrev pub IsPass : {V E : Type 0} → Stream V E → Result Bool E → Stream V E → Type 0
 IsPass old (Ok true) new = IsWithoutFirst old new
 IsPass old (Ok false) new = (old ≡ ended) × (new ≡ ended)
 IsPass old (Err e) new = (old ≡ refused e) × (new ≡ refused e)
 
--- the next object stands in a block that was begun; or there is none; or the end of the block is refused
+-- the next object is in a block that was begun; or there is none; or the end of the block is refused
 abbrev pub IsBegun : {V E : Type 0} → ℕ → Result Bool E → Stream V E → Type 0
 IsBegun left (Ok true) stream = 0 < left
 IsBegun left (Ok false) stream = stream ≡ ended

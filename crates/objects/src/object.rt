@@ -15,7 +15,7 @@ pub trait Object<'a>: Drop {
     /// Why bytes are no object.
     type Refusal: Drop;
 
-    /// What is read at a place of the input, and the place behind it, or the first refusal.
+    /// What is read at a place of the input, and the place after it, or the first refusal.
     ghost at: { Self → List ℕ → ℕ → Result (Self.Value × ℕ) Self.Refusal };
 
     /// The bytes are an encoding of the value.
@@ -30,10 +30,10 @@ pub trait Object<'a>: Drop {
     /// The slot is one for this reader's objects.
     ghost fits: { Self → Self.Slot → Type 0 };
 
-    /// The refusal of bytes behind the last object of a block, whose number counts from 1.
+    /// The refusal of bytes after the last object of a block, whose number counts from 1.
     ghost rest: { ℕ → Self.Refusal };
 
-    /// Reads the object at `place` into `slot`, and returns the place behind it.
+    /// Reads the object at `place` into `slot`, and returns the place after it.
     fn take(
         &self,
         input: &'a [u8],
@@ -48,7 +48,7 @@ pub trait Object<'a>: Drop {
         ensures within { IfOk result (λ after. (place ≤ after) × (after ≤ length input.now)) }
         ensures fits { fits self.now slot.new };
 
-    /// Checks the object at `place`, and returns the place behind it. It refuses what `take`
+    /// Checks the object at `place`, and returns the place after it. It refuses what `take`
     /// refuses, and builds nothing.
     fn pass(&self, input: &'a [u8], place: usize) -> Result<usize, Self::Refusal>
         requires right { right self.now }
@@ -57,7 +57,7 @@ pub trait Object<'a>: Drop {
             (place_behind (at self.now input.now place)) }
         ensures within { IfOk result (λ after. (place ≤ after) × (after ≤ length input.now)) };
 
-    /// Reads the object at `place`, which was checked, into `slot`, and returns the place behind
+    /// Reads the object at `place`, which was checked, into `slot`, and returns the place after
     /// it.
     fn take_known(&self, input: &'a [u8], place: usize, slot: &mut Self::Slot) -> usize
         requires right { right self.now }
@@ -68,11 +68,11 @@ pub trait Object<'a>: Drop {
         ensures within { (place ≤ result) × (result ≤ length input.now) }
         ensures fits { fits self.now slot.new };
 
-    /// The refusal of bytes behind the last object of the block, whose number counts from 1.
+    /// The refusal of bytes after the last object of the block, whose number counts from 1.
     fn rest_in(&self, block: u64) -> Self::Refusal
         ensures { result ≡ rest block };
 
-    /// A law and no code: what is read is spelled so, and what is spelled so is read.
+    /// A law, without code: what is read is encoded so, and what is encoded so is read.
     fn agrees(&self)
         requires right { right self.now }
         ensures { Agrees (at self.now) (Spells self.now) };

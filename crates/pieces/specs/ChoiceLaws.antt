@@ -1,4 +1,4 @@
--- Laws of one word out of several: the first one that stands there is read.
+-- Laws of one word out of several: the first one that is there is read.
 use Rattle.std.specs.Prelude.{slice_get}
 use Rattle.std.proofs.Common.{inl, inr, ◌&&◌, if◌then◌else◌, ◌≡◌, ℕ, zero, suc, ◌+◌, Bool, true, false, eqb, ◌==◌}
 use Rattle.std.proofs.Common.{List, [], ◌∷◌, ◌++◌, length, take, drop, max, Some, Result, Ok, Err, IsErr, refl, sym}
@@ -12,12 +12,12 @@ use Rattle.pieces.specs.Refusal.{place_of}
 use Rattle.pieces.specs.Word.{is_this, byte_at, word_at, or_else, one_of_from, one_of}
 use Rattle.pieces.specs.WordLaws.{stands_first, byte_again, word_again}
 
--- none of the words stands there
+-- none of the words is there
 abbrev pub AllRefused : List ℕ → ℕ → List (List ℕ) → Type 0
 AllRefused input place [] = Unit {0}
 AllRefused input place (word ∷ words) = IsErr (word_at word input place) × AllRefused input place words
 
--- the first of the words that stands there is read, if the list is counted from any index
+-- the first of the words that is there is read, if the list is counted from any index
 first_from : (words : List (List ℕ)) (index k : ℕ) (word input : List ℕ) (place after far : ℕ)
     → slice_get words k ≡ Some word → AllRefused input place (take k words) → word_at word input place ≡ Ok after
     → one_of_from index words input place far ≡ Ok (index + k, after)
@@ -41,7 +41,7 @@ first_from (other ∷ words) index (suc k) word input place after far is refused
     go (Err refusal) err next = let steps : index + 1 + k ≡ index + suc k =
         omega arith in next (max far (place_of refusal)) ∙ ap (λ (n : ℕ). Ok (n, after)) steps
 
--- the first of the words that stands there is read
+-- the first of the words that is there is read
 pub one_of_first : (words : List (List ℕ)) (k : ℕ) (word input : List ℕ) (place after : ℕ)
     → slice_get words k ≡ Some word → AllRefused input place (take k words) → word_at word input place ≡ Ok after
     → one_of words input place ≡ Ok (k, after)
@@ -60,7 +60,7 @@ abbrev pub all_differ : List (List ℕ) → List ℕ → Bool
 all_differ [] other = true
 all_differ (word ∷ words) other = differ word other && all_differ words other
 
--- a word that differs from what stands there is refused
+-- a word that differs from what is there is refused
 pub differ_refused : (word other input rest : List ℕ) (place : ℕ) → differ word other ≡ true
     → drop place input ≡ other ++ rest → IsErr (word_at word input place)
 unfolding word_at
@@ -83,7 +83,7 @@ differ_refused (byte ∷ word) (first ∷ other) input rest place d e =
           subst (λ (r : Result ℕ PieceRefusal). IsErr (r >>= λ after. word_at word input after)) (sym there) refl
     ]
 
--- the words that differ from what stands there are refused
+-- the words that differ from what is there are refused
 all_refused : (words : List (List ℕ)) (word input rest : List ℕ) (place : ℕ) → all_differ words word ≡ true
     → drop place input ≡ word ++ rest → AllRefused input place words
 all_refused [] word input rest place d e = tt

@@ -37,7 +37,7 @@ abbrev pub IsHigh : Option ℕ → Type 0
 IsHigh None = Unit {0}
 IsHigh (Some high) = high < 16
 
--- pairs of digits behind bytes make bytes
+-- pairs of digits after bytes make bytes
 pub pairs_fit : (high : Option ℕ) (bytes rest : List ℕ) (place : ℕ) → IsHigh high → are_bytes bytes ≡ true
     → IfOk (pairs_at high bytes rest place) (λ read. are_bytes read.0 ≡ true)
 unfolding pairs_at

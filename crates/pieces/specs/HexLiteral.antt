@@ -22,7 +22,7 @@ hex_digit byte =
     else (if nat_lt 96 byte && nat_lt byte 103 then Some (byte - 87)
     else None)
 
--- the rest of the digits behind what was read: the bytes, and the place after them.
+-- the rest of the digits after what was read: the bytes, and the place after them.
 -- A byte whose first digit was read has a second one
 unfoldable pub pairs_at : Option ℕ → List ℕ → List ℕ → ℕ → Result (List ℕ × ℕ) PieceRefusal
 pairs_at None bytes [] place = Ok (bytes, place)

@@ -9,7 +9,7 @@ use Rattle.pieces.specs.Word.{byte_at}
 
 -- ---- as it is printed
 
--- a quote, a backslash, LF, CR and tab stand behind a backslash; every other byte for itself
+-- a quote, a backslash, LF, CR and tab stand after a backslash; every other byte for itself
 abbrev pub escape : ℕ → List ℕ
 escape byte =
     if byte == 34 then codes "\\\""
@@ -25,7 +25,7 @@ literal_text text = codes "\"" ++ (flat_map escape text ++ codes "\"")
 
 -- ---- as it is read
 
--- the byte that stands behind a backslash for another one
+-- the byte after a backslash for another one
 abbrev pub unescaped : ℕ → Option ℕ
 unescaped byte =
     if byte == 34 then Some 34
@@ -39,7 +39,7 @@ unescaped byte =
 abbrev pub is_never_raw : ℕ → Bool
 is_never_raw byte = byte == 10 || byte == 13 || byte == 9
 
--- the rest of a literal behind what was read of it: the text, and the place after the closing quote.
+-- the rest of a literal after what was read of it: the text, and the place after the closing quote.
 -- After a backslash the next byte stands for another one
 unfoldable pub rest_at : Bool → List ℕ → List ℕ → ℕ → Result (List ℕ × ℕ) PieceRefusal
 rest_at behind_backslash text [] place = Err (Syntax place)

@@ -10,7 +10,7 @@ use Rattle.pieces.specs.Literal.{escape, literal_text, literal_at}
 use Rattle.pieces.specs.WordLaws.{byte_again, range_none, range_more}
 use Rattle.pieces.specs.LiteralTexts.{rest_again}
 
--- a printed text is read, up to the place behind it
+-- a printed text is read, up to the place after it
 pub literal_again : (text input rest : List ℕ) (place : ℕ) → drop place input ≡ literal_text text ++ rest
     → literal_at input place ≡ Ok (text, place + length (literal_text text))
 literal_again text input rest place front =

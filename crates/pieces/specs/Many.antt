@@ -1,8 +1,8 @@
--- Items one behind the other, as long as there are more.
+-- Items, in order, as long as there are more.
 use Rattle.std.specs.Prelude.{ℕ, zero, suc, List, [], ◌∷◌, ◌++◌, Option, Some, None, Result, Ok}
 use Rattle.words.specs.Reading.{◌>>=◌}
 
--- an item behind those that were read: its value, and the place after it
+-- an item after those that were read: its value, and the place after it
 abbrev pub Item : Type 0 → Type 0 → Type 0
 Item X E = List X → ℕ → Result (X × ℕ) E
 
@@ -10,7 +10,7 @@ Item X E = List X → ℕ → Result (X × ℕ) E
 abbrev pub More : Type 0 → Type 0
 More E = ℕ → Result (Option ℕ) E
 
--- the items behind those that were read, and the place after the last one; fuel is more than the bytes that are left
+-- the items after those that were read, and the place after the last one; fuel is more than the bytes that are left
 unfoldable pub many : {X E : Type 0} → Item X E → More E → ℕ → List X → ℕ → Result (List X × ℕ) E
 many item more zero read place = Ok (read, place)
 many item more (suc fuel) read place =

@@ -1,4 +1,4 @@
--- Laws of items one behind the other: the steps of a loop that reads them, and what holds of all of them.
+-- Laws of items, in order: the steps of a loop that reads them, and what holds of all of them.
 use Rattle.std.specs.Prelude.{IfOk}
 use Rattle.std.proofs.Common.{◌≡◌, ℕ, zero, suc, ◌+◌, ◌<◌, ◌≤◌, List, [], ◌∷◌, ◌++◌, Option, Result, Ok, Err, Some}
 use Rattle.std.proofs.Common.{None, refl, sym, subst, ◌∙◌, arith}
@@ -64,7 +64,7 @@ many_refused item more size read place total refusal from within one =
     let is = many_is item more size read place total from within in
     sym is.2 ∙ rw one refl
 
--- the next item is read, and what stands behind it is refused
+-- the next item is read, and what follows it is refused
 pub many_stopped : {X E : Type 0} (item : Item X E) (more : More E) (size : ℕ) (read : List X) (place : ℕ)
     (total : Result (List X × ℕ) E) (x : X) (after : ℕ) (refusal : E) → ManyFrom item more size read place total
     → place ≤ size → item read place ≡ Ok (x, after) → more after ≡ Err refusal → total ≡ Err refusal
@@ -75,7 +75,7 @@ many_stopped item more size read place total x after refusal from within one nex
 
 -- ---- what each item keeps
 
--- an item was read that keeps it, and what stands behind the item is known
+-- an item was read that keeps it, and what follows the item is known
 kept_behind : {X E : Type 0} (item : Item X E) (more : More E) (P : List X → Type 0) (fuel : ℕ) (read : List X)
     (place : ℕ) (one : X × ℕ) (next : Result (Option ℕ) E) → item read place ≡ Ok one → more one.1 ≡ next
     → P (read ++ one.0 ∷ [])

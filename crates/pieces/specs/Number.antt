@@ -29,7 +29,7 @@ digits_from most value (byte ∷ rest) place =
     else digits_from most (value * 10 + (byte - 48)) rest (place + 1))
     else Within value place
 
--- a digit other than 0 stands there
+-- a digit other than 0 is there
 abbrev pub begins : Option ℕ → Bool
 begins None = false
 begins (Some byte) = nat_lt 48 byte && nat_lt byte 58
@@ -103,7 +103,7 @@ abbrev pub or_none : Signed → Option ℤ × ℕ
 or_none (Ok read) = (Some read.0, read.1)
 or_none (Err passed) = (None, passed.after)
 
--- a number of any size; None where it is not of 64 bits
+-- a number of any size; None if it is not of 64 bits
 abbrev pub any_number_at : List ℕ → ℕ → Result (Option ℤ × ℕ) PieceRefusal
 any_number_at input place = map_value or_none (signed_at input place)
 

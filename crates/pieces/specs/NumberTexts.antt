@@ -131,7 +131,7 @@ below_is n h =
     let le : n ≤ 2 ^ 63 - 1 = ltb-false _ _ (not-true _ parts.0) in
     omega arith
 
--- what stands at a place stands first behind it
+-- what stands at a place stands first after it
 pub first_behind : (input : List ℕ) (place : ℕ) → slice_get input place ≡ slice_get (drop place input) 0
 first_behind [] zero = refl
 first_behind [] (suc place) = refl

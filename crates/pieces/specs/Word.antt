@@ -7,7 +7,7 @@ use Rattle.pieces.specs.declared.refusal.PieceRefusal.{PieceRefusal}
 use Rattle.pieces.specs.declared.refusal.PieceRefusal.TheVariants.{Syntax}
 use Rattle.pieces.specs.Refusal.{place_of}
 
--- this byte stands there
+-- this byte is there
 abbrev pub is_this : ℕ → Option ℕ → Bool
 is_this byte None = false
 is_this byte (Some other) = other == byte
@@ -16,7 +16,7 @@ is_this byte (Some other) = other == byte
 abbrev pub byte_at : ℕ → List ℕ → ℕ → Result ℕ PieceRefusal
 byte_at byte input place = if is_this byte (slice_get input place) then Ok (place + 1) else Err (Syntax place)
 
--- the bytes of a word, one behind the other
+-- the bytes of a word, in order
 unfoldable pub word_at : List ℕ → List ℕ → ℕ → Result ℕ PieceRefusal
 word_at [] input place = Ok place
 word_at (byte ∷ word) input place = byte_at byte input place >>= λ after. word_at word input after
@@ -26,7 +26,7 @@ abbrev pub or_else : Result ℕ PieceRefusal → ℕ → (ℕ → Result (ℕ ×
 or_else (Ok after) index next far = Ok (index, after)
 or_else (Err refusal) index next far = next (max far (place_of refusal))
 
--- the first of the words that stands there, by its place in the list, and the place after it;
+-- the first of the words that is there, by its place in the list, and the place after it;
 -- else how far some word went
 unfoldable pub one_of_from : ℕ → List (List ℕ) → List ℕ → ℕ → ℕ → Result (ℕ × ℕ) PieceRefusal
 one_of_from index [] input place far = Err (Syntax far)
@@ -41,11 +41,11 @@ unfoldable pub spaces : List ℕ → ℕ
 spaces [] = 0
 spaces (byte ∷ rest) = if byte == 32 then suc (spaces rest) else 0
 
--- the place behind all spaces that stand there
+-- the place after all spaces that are there
 abbrev pub after_spaces : List ℕ → ℕ → ℕ
 after_spaces input place = place + spaces (drop place input)
 
--- a gap between pieces: all spaces that stand there, at least one
+-- a gap between pieces: all spaces that are there, at least one
 abbrev pub gap_at : List ℕ → ℕ → Result ℕ PieceRefusal
 gap_at input place = if spaces (drop place input) == 0 then Err (Syntax place) else Ok (after_spaces input place)
 

@@ -74,12 +74,12 @@ byte_stands byte input place after taken =
 
 -- ---- bytes and words are read
 
--- a byte that stands there is read
+-- a byte that is there is read
 pub byte_again : (byte : ℕ) (input rest : List ℕ) (place : ℕ) → drop place input ≡ byte ∷ rest
     → byte_at byte input place ≡ Ok (place + 1)
 byte_again byte input rest place e = rw (is_this_again byte input rest place e) refl
 
--- a word that stands there is read
+-- a word that is there is read
 pub word_again : (word input rest : List ℕ) (place : ℕ) → drop place input ≡ word ++ rest
     → word_at word input place ≡ Ok (place + length word)
 unfolding word_at
@@ -111,7 +111,7 @@ gap_again input rest place e none =
     let one : spaces (drop place input) ≡ 1 = ap spaces e ∙ ap suc none in
     rw one refl
 
--- a mark with a space before and behind it is read
+-- a mark with a space before and after it is read
 pub mark_again : (byte : ℕ) (input rest : List ℕ) (place : ℕ) → drop place input ≡ 32 ∷ byte ∷ 32 ∷ rest → byte ≢ 32
     → spaces rest ≡ 0 → mark_at byte input place ≡ Ok (place + 3)
 unfolding spaces

@@ -27,7 +27,7 @@ pub fn take_hex(alloc: Global, text: &str, place: usize) -> Result<(Bytes, usize
     Ok((bytes, after))
 }
 
-/// Puts the bytes of the pairs of digits from `start` on behind `read`: the place after them.
+/// Appends the bytes of the pairs of digits from `start` on to `read`: the place after them.
 fn take_pairs(read: &mut Vec<u8>, text: &[u8], start: usize) -> Result<usize, PieceRefusal>
     requires { start ≤ length text.now }
     ensures exact { Gives is_memory (λ after. (read.new.items, after)) result
@@ -45,14 +45,14 @@ fn take_pairs(read: &mut Vec<u8>, text: &[u8], start: usize) -> Result<usize, Pi
     Ok(at)
 }
 
-/// The byte behind `read`.
+/// The byte after `read`.
 fn put_byte(read: &mut Vec<u8>, byte: u8) -> Result<(), AllocError>
     ensures { OnOk result (read.new.items ≡ read.old.items ++ byte ∷ []) }
 {
     Ok(read.push(byte)?)
 }
 
-/// The value of the digit at `place`, if one stands there.
+/// The value of the digit at `place`, if one is there.
 fn digit_at(text: &[u8], place: usize) -> Option<u8>
     requires { place ≤ length text.now }
     ensures small { IfSome result (λ digit. (place < length text.now) × (digit < 16)) }

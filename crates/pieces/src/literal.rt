@@ -27,7 +27,7 @@ pub fn take_literal(alloc: Global, text: &str, place: usize) -> Result<(Text, us
     Ok((Text::from_string(content), after))
 }
 
-/// Puts the text between quotes behind `out`. An `Err` says that memory ran out.
+/// Appends the text between quotes to `out`. An `Err` says that memory ran out.
 pub fn put_literal(out: &mut String, text: &str) -> Result<(), AllocError>
     ensures { OnOk result (string_bytes out.new ≡ string_bytes out.old ++ literal_text text.now) }
 {
@@ -45,7 +45,7 @@ pub(crate) fn stops_at(place: usize) -> PieceRefusal
     }
 }
 
-/// Puts the text of a literal that goes on at `start` behind `content`: the place after its
+/// Appends the text of a literal that goes on at `start` to `content`: the place after its
 /// closing quote.
 fn take_rest(content: &mut String, text: &str, start: usize) -> Result<usize, PieceRefusal>
     requires inside { start ≤ length text.now }
@@ -121,7 +121,7 @@ fn take_stop(bytes: &[u8], place: usize) -> Result<Option<char>, PieceRefusal>
     }
 }
 
-/// The character that the byte behind a backslash stands for.
+/// The character that the byte after a backslash stands for.
 fn take_escaped(bytes: &[u8], place: usize) -> Result<char, PieceRefusal>
     requires { place ≤ length bytes.now }
     ensures within { IfOk result (λ other. (place < length bytes.now)
@@ -140,7 +140,7 @@ fn take_escaped(bytes: &[u8], place: usize) -> Result<char, PieceRefusal>
     }
 }
 
-/// The character that the byte stands for behind a backslash.
+/// The character that the byte stands for after a backslash.
 fn unescaped(byte: u8) -> Option<char>
     ensures { result ≡ unescaped_of byte }
 {
@@ -154,7 +154,7 @@ fn unescaped(byte: u8) -> Option<char>
     }
 }
 
-/// Puts the text as it stands in a literal, without the quotes.
+/// Puts the text as it is in a literal, without the quotes.
 fn put_escaped(out: &mut String, text: &str) -> Result<(), AllocError>
     ensures { OnOk result (string_bytes out.new
         ≡ string_bytes out.old ++ flat_map escape_of text.now) }

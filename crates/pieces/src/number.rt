@@ -47,8 +47,8 @@ pub struct Passed {
 /// A number of 64 bits with its sign and the place after it; or one past 64 bits.
 pub type Signed = Result<(i64, usize), Passed>;
 
-/// The number of 64 bits without sign at `place`, a count of bytes from 0, and the place after it.
-/// `Syntax`: no digit stands there, or the number ends above 64 bits; the place of the digit that
+/// The number of 64 bits without sign at `place`, a byte offset from 0, and the place after it.
+/// `Syntax`: no digit is there, or the number ends above 64 bits; the place of the digit that
 /// passes them.
 pub fn take_unsigned(text: &str, place: usize) -> Result<(u64, usize), PieceRefusal>
     requires { place ≤ length text.now }
@@ -58,9 +58,9 @@ pub fn take_unsigned(text: &str, place: usize) -> Result<(u64, usize), PieceRefu
     no_more(natural(text.as_bytes(), place, u64::MAX)?)
 }
 
-/// The number from 1 to the largest of 64 bits with a sign at `place`, a count of bytes from 0, and
+/// The number from 1 to the largest of 64 bits with a sign at `place`, a byte offset from 0, and
 /// the place after it.
-/// `Syntax`: no digit from 1 to 9 stands there, or the place of the digit that passes 64 bits.
+/// `Syntax`: no digit from 1 to 9 is there, or the place of the digit that passes 64 bits.
 pub fn take_count(text: &str, place: usize) -> Result<(i64, usize), PieceRefusal>
     requires { place ≤ length text.now }
     ensures exact { result ≡ count_at text.now place }
@@ -71,8 +71,8 @@ pub fn take_count(text: &str, place: usize) -> Result<(i64, usize), PieceRefusal
     Ok((above_zero(value), after))
 }
 
-/// The number of 64 bits with a sign at `place`, a count of bytes from 0, and the place after it.
-/// `Syntax`: no number stands there, or the place of the digit that passes 64 bits.
+/// The number of 64 bits with a sign at `place`, a byte offset from 0, and the place after it.
+/// `Syntax`: no number is there, or the place of the digit that passes 64 bits.
 pub fn take_long(text: &str, place: usize) -> Result<(i64, usize), PieceRefusal>
     requires { place ≤ length text.now }
     ensures exact { result ≡ long_at text.now place }
@@ -86,9 +86,9 @@ pub fn take_long(text: &str, place: usize) -> Result<(i64, usize), PieceRefusal>
     }
 }
 
-/// The number at `place`, a count of bytes from 0, and the place after it. `None`: it is not of 64
+/// The number at `place`, a byte offset from 0, and the place after it. `None`: it is not of 64
 /// bits.
-/// `Syntax`: no number stands there.
+/// `Syntax`: no number is there.
 pub fn take_any_number(text: &str, place: usize) -> Result<(Option<i64>, usize), PieceRefusal>
     requires { place ≤ length text.now }
     ensures exact { result ≡ any_number_at text.now place }
@@ -100,9 +100,9 @@ pub fn take_any_number(text: &str, place: usize) -> Result<(Option<i64>, usize),
     }
 }
 
-/// The number of any size at `place`, a count of bytes from 0: one of 64 bits with the place after
-/// it, or what is told of one past them.
-/// `Syntax`: no number stands there.
+/// The number of any size at `place`, a byte offset from 0: one of 64 bits with the place after
+/// it, or what is reported of one past them.
+/// `Syntax`: no number is there.
 pub fn take_signed(text: &str, place: usize) -> Result<Signed, PieceRefusal>
     requires { place ≤ length text.now }
     ensures exact { result ≡ signed_at text.now place }
@@ -115,9 +115,9 @@ pub fn take_signed(text: &str, place: usize) -> Result<Signed, PieceRefusal>
     Ok(signed_above(natural(text.as_bytes(), place, LARGEST)?))
 }
 
-/// The number of 64 bits with a sign at `place`, a count of bytes from 0, and the place after it.
-/// `None`: a minus sign stands there alone.
-/// `Syntax`: neither stands there, or the place of the digit that passes 64 bits.
+/// The number of 64 bits with a sign at `place`, a byte offset from 0, and the place after it.
+/// `None`: a minus sign is there alone.
+/// `Syntax`: neither is there, or the place of the digit that passes 64 bits.
 pub fn take_optional_long(text: &str, place: usize) -> Result<(Option<i64>, usize), PieceRefusal>
     requires { place ≤ length text.now }
     ensures exact { result ≡ optional_long_at text.now place }
@@ -130,7 +130,7 @@ pub fn take_optional_long(text: &str, place: usize) -> Result<(Option<i64>, usiz
     Ok((Some(number), after))
 }
 
-/// Whether a minus sign stands at `place`, a count of bytes from 0, that is no number's.
+/// Whether a minus sign is at `place`, a byte offset from 0, that is no number's.
 pub fn is_absent(bytes: &[u8], place: usize) -> bool
     requires { place ≤ length bytes.now }
     ensures { result ≡ is_absent bytes.now place }
@@ -138,21 +138,21 @@ pub fn is_absent(bytes: &[u8], place: usize) -> bool
     stands(bytes, place, b'-') && !begins_there(bytes, place + 1)
 }
 
-/// Puts the number behind `out`.
+/// Appends the number to `out`.
 pub fn put_long(out: &mut String, number: i64) -> Result<(), AllocError>
     ensures { OnOk result (string_bytes out.new ≡ string_bytes out.old ++ signed_decimal number) }
 {
     out.push_str(Buffer::new().format(number))
 }
 
-/// Puts the number behind `out`.
+/// Appends the number to `out`.
 pub fn put_unsigned(out: &mut String, number: u64) -> Result<(), AllocError>
     ensures { OnOk result (string_bytes out.new ≡ string_bytes out.old ++ decimal number) }
 {
     out.push_str(Buffer::new().format(number))
 }
 
-/// Puts the number behind `out`, or a minus sign where there is none.
+/// Appends the number to `out`, or a minus sign if there is none.
 pub fn put_optional_long(out: &mut String, number: Option<i64>) -> Result<(), AllocError>
     ensures { OnOk result (string_bytes out.new ≡ string_bytes out.old ++ optional_text number) }
 {
@@ -174,7 +174,7 @@ fn no_more(digits: Digits) -> Result<(u64, usize), PieceRefusal>
     }
 }
 
-/// What digits make behind a minus sign.
+/// What digits make after a minus sign.
 fn signed_below(digits: Digits) -> Signed
     requires { value_of digits ≤ 2 ^ 63 }
     ensures { result ≡ signed_as negative digits }
@@ -193,7 +193,7 @@ fn signed_below(digits: Digits) -> Signed
     }
 }
 
-/// What digits make behind no sign.
+/// What digits make after no sign.
 fn signed_above(digits: Digits) -> Signed
     requires { value_of digits ≤ 2 ^ 63 - 1 }
     ensures { result ≡ signed_as pos digits }
@@ -311,7 +311,7 @@ fn with_digit(value: u64, byte: u8, most: u64) -> Option<u64>
     Some(value * 10 + digit)
 }
 
-/// The place behind all digits that stand at the place.
+/// The place after all digits at the place.
 #[tactic(auto, using(crate::proofs::NumberLemmas::digits_steps))]
 fn skip_digits(bytes: &[u8], place: usize) -> usize
     requires { place ≤ length bytes.now }

@@ -10,7 +10,7 @@ use std::alloc::{AllocError, AllocFailed};
 pub enum PieceRefusal {
     /// No such piece goes on with the byte at `place`, counted from 0, or it ends there.
     Syntax { place: u64 },
-    /// There was no memory.
+    /// Memory ran out.
     Memory,
 }
 

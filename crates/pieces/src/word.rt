@@ -6,15 +6,15 @@ ghost use Rattle.pieces.specs.Word.{is_this, byte_at, word_at, one_of, after_spa
 
 use crate::refusal::PieceRefusal;
 
-/// Whether `byte` stands at `place`, a count of bytes from 0.
+/// Whether `byte` is at `place`, a byte offset from 0.
 pub fn stands(bytes: &[u8], place: usize, byte: u8) -> bool
     ensures { result ≡ is_this byte (slice_get bytes.now place) }
 {
     place < bytes.len() && bytes[place] == byte
 }
 
-/// The place after `byte`, which stands at `place`, a count of bytes from 0.
-/// `Syntax`: another byte stands there, or the text ends.
+/// The place after `byte`, at `place`, a byte offset from 0.
+/// `Syntax`: another byte is there, or the text ends.
 #[tactic(auto, using(crate::proofs::WordLemmas::byte_within))]
 pub fn take_byte(text: &str, place: usize, byte: u8) -> Result<usize, PieceRefusal>
     requires { place ≤ length text.now }
@@ -30,7 +30,7 @@ pub fn take_byte(text: &str, place: usize, byte: u8) -> Result<usize, PieceRefus
     }
 }
 
-/// The place after `word`, which stands at `place`, a count of bytes from 0.
+/// The place after `word`, at `place`, a byte offset from 0.
 /// `Syntax`: the place of the first byte that is not the word's.
 #[tactic(auto, using(crate::proofs::WordLemmas::word_steps))]
 pub fn take_word(text: &str, place: usize, word: &str) -> Result<usize, PieceRefusal>
@@ -45,9 +45,9 @@ pub fn take_word(text: &str, place: usize, word: &str) -> Result<usize, PieceRef
     Ok(at)
 }
 
-/// The first of the words that stands at `place`, a count of bytes from 0: its place in the list,
+/// The first of the words at `place`, a byte offset from 0: its place in the list,
 /// from 0, and the place after it.
-/// `Syntax`: none stands there; the furthest place that one of them goes on to.
+/// `Syntax`: none is there; the furthest place that one of them goes on to.
 pub fn take_one_of(text: &str, place: usize, words: &[&str]) -> Result<(usize, usize), PieceRefusal>
     requires { place ≤ length text.now }
     ensures exact { result ≡ one_of (map (λ w. w.now) words.now) text.now place }
@@ -63,7 +63,7 @@ pub fn take_one_of(text: &str, place: usize, words: &[&str]) -> Result<(usize, u
     Err(PieceRefusal::Syntax { place: far })
 }
 
-/// The place behind all spaces that stand at `place`, a count of bytes from 0.
+/// The place after all spaces at `place`, a byte offset from 0.
 #[tactic(auto, using(crate::proofs::WordLemmas::spaces_steps))]
 pub fn skip_spaces(text: &str, place: usize) -> usize
     requires { place ≤ length text.now }
@@ -79,8 +79,8 @@ pub fn skip_spaces(text: &str, place: usize) -> usize
     bytes.len()
 }
 
-/// The place behind all spaces that stand at `place`, a count of bytes from 0.
-/// `Syntax`: no space stands there.
+/// The place after all spaces at `place`, a byte offset from 0.
+/// `Syntax`: no space is there.
 pub fn take_gap(text: &str, place: usize) -> Result<usize, PieceRefusal>
     requires { place ≤ length text.now }
     ensures exact { result ≡ gap_at text.now place }
@@ -95,8 +95,8 @@ pub fn take_gap(text: &str, place: usize) -> Result<usize, PieceRefusal>
     Ok(after)
 }
 
-/// The place behind the byte `mark`, and behind the spaces before and after it.
-/// `Syntax`: another byte stands behind the spaces, or the text ends.
+/// The place after the byte `mark`, and after the spaces before and after it.
+/// `Syntax`: another byte stands after the spaces, or the text ends.
 pub fn take_mark(text: &str, place: usize, mark: u8) -> Result<usize, PieceRefusal>
     requires { place ≤ length text.now }
     ensures exact { result ≡ mark_at mark text.now place }
@@ -106,7 +106,7 @@ pub fn take_mark(text: &str, place: usize, mark: u8) -> Result<usize, PieceRefus
     Ok(skip_spaces(text, after))
 }
 
-/// That the text ends at `place`, a count of bytes from 0.
+/// That the text ends at `place`, a byte offset from 0.
 /// `Syntax`: something is left.
 pub fn take_end(text: &str, place: usize) -> Result<(), PieceRefusal>
     requires { place ≤ length text.now }

@@ -19,7 +19,7 @@ abbrev pub as_value : {V E : Type 0} → (List Cell → V) → (FieldRefusal →
     → Result (V × ℕ) E
 as_value made refused read = map_refusal refused (map_value (λ read. (made read.0, read.1)) read)
 
--- the value at a place, and the place behind it
+-- the value at a place, and the place after it
 abbrev pub value_at : {V E : Type 0} → (List Cell → V) → (FieldRefusal → E) → Schema → List Wanted → List ℕ → ℕ
     → Result (V × ℕ) E
 value_at made refused schema wanted input place = as_value made refused (record_at schema wanted input place)

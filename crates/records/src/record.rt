@@ -29,14 +29,14 @@ pub trait FromCells: Drop {
     /// What a refusal of a record is called.
     ghost refused: { AFieldRefusal → Self.Refusal };
 
-    /// The refusal of bytes behind the last record of a block, whose number counts from 1.
+    /// The refusal of bytes after the last record of a block, whose number counts from 1.
     ghost rest: { ℕ → Self.Refusal };
 
     /// What a refusal of a record is called.
     fn refuse(refusal: FieldRefusal) -> Self::Refusal
         ensures { result ≡ refused refusal };
 
-    /// The refusal of bytes behind the last record of the block, whose number counts from 1.
+    /// The refusal of bytes after the last record of the block, whose number counts from 1.
     fn refuse_rest(block: u64) -> Self::Refusal
         ensures { result ≡ rest block };
 }

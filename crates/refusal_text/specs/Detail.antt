@@ -1,4 +1,4 @@
--- What stands behind the word of a refusal.
+-- What follows the word of a refusal.
 use Rattle.std.specs.Prelude.{ℕ, List, [], ◌++◌, codes, decimal}
 use Rattle.std.specs.Fmt.{signed_decimal}
 use Rattle.pieces.specs.HexLiteral.{hex_text}

@@ -1,4 +1,4 @@
--- The word of a refusal with what stands behind it.
+-- The word of a refusal with what follows it.
 use Rattle.std.specs.Prelude.{ℕ, List, [], ◌∷◌, ◌++◌, codes}
 use Rattle.refusal_text.specs.declared.told.Told.{Told}
 use Rattle.refusal_text.specs.Detail.{detail_text}

@@ -1,8 +1,8 @@
-//! What stands behind the word of a refusal.
+//! What follows the word of a refusal.
 
 use avro_wire::{Bytes, Text};
 
-/// What stands behind the word of a refusal, and a space before it. docs/FORMATS.md, "Refused runs".
+/// What follows the word of a refusal, and a space before it. docs/FORMATS.md, "Refused runs".
 #[derive(Clone, Copy)]
 pub enum Detail<'a> {
     /// Nothing, and no space.

@@ -1,9 +1,9 @@
-//! The text of a refusal: a word, and what stands behind it.
+//! The text of a refusal: a word, and what follows it.
 //!
 //! | Module | What it has |
 //! |---|---|
-//! | `detail` | what stands behind the word |
-//! | `told` | the word with what stands behind it |
+//! | `detail` | what follows the word |
+//! | `told` | the word with what follows it |
 #![tactic(auto)]
 
 mod detail;

@@ -1,4 +1,4 @@
-//! The word of a refusal with what stands behind it.
+//! The word of a refusal with what follows it.
 
 ghost use Rattle.std.specs.Prelude.{◌≡◌, [], ◌++◌, codes, decimal};
 ghost use Rattle.std.specs.Fmt.{signed_decimal};
@@ -9,12 +9,12 @@ ghost use Rattle.refusal_text.specs.Told.{told_text, spaced};
 use crate::detail::Detail;
 use avro_wire::{Bytes, Text};
 
-/// The text of a refusal, as it stands in the line of a run: each part with a space before it.
+/// The text of a refusal, as it is in the line of a run: each part with a space before it.
 #[derive(Clone, Copy)]
 pub struct Told<'a> {
     /// The refusal's word. It is empty if the refusal has none.
     pub word: &'static str,
-    /// What stands behind the word.
+    /// What follows the word.
     pub detail: Detail<'a>,
 }
 

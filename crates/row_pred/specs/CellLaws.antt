@@ -26,14 +26,14 @@ use Rattle.pieces.specs.HexLaws.{hex_again}
 use Rattle.cell_text.specs.Cell.{cell_text}
 use Rattle.row_pred.specs.Cell.{cell_words, begins_number, any_cell_at, fitted, cell_at}
 
--- ---- what stands behind a cell
+-- ---- what follows a cell
 
 -- the text begins with no digit, decimal or hexadecimal
 abbrev pub stops : List ℕ → Bool
 stops [] = true
 stops (byte ∷ rest) = not (is_digit byte) && not (is_some (hex_digit byte))
 
--- so no digit stands there
+-- so no digit is there
 pub stops_digits : (rest : List ℕ) → stops rest ≡ true → digits rest ≡ 0
 stops_digits [] s = no_digit_at_end
 stops_digits (byte ∷ rest) s =
@@ -46,7 +46,7 @@ stops_hex (byte ∷ rest) s = not-true _ (and_parts (not (is_digit byte)) (not (
 
 -- ---- numbers
 
--- neither a text nor bytes stand there, but a number
+-- neither a text nor bytes are there, but a number
 record Begins (input : List ℕ) (place : ℕ) : Type 0 where
   no_text : is_this 34 (slice_get input place) ≡ false
   no_bytes : is_this 120 (slice_get input place) ≡ false
@@ -134,7 +134,7 @@ any_cell_again column (Bytes bytes) input rest place fit real e s =
     (ap (map_value (λ (read : List ℕ × ℕ). (Some (Bytes read.0), read.1)))
     (hex_again bytes input rest place real e (stops_hex rest s))))
 
--- a cell that fits may stand there
+-- a cell that fits may be there
 pub fitted_again : (column : Column) (cell : Cell) (place after : ℕ) → fits column cell ≡ true
     → fitted column place (Some cell, after) ≡ Ok (cell, after)
 fitted_again column Null place after fit = rw (not-true column.required fit) refl

@@ -1,4 +1,4 @@
--- The cells of a row as they stand in a text: in the order of the columns, one in each, with one space between them,
+-- The cells of a row as they are in a text: in the order of the columns, one in each, with one space between them,
 -- or more of them on reading.
 use Rattle.std.specs.Prelude.{ℕ, List, [], ◌∷◌, ◌++◌, Result, Ok, codes}
 use Rattle.std.specs.List.{flat_map}
@@ -13,7 +13,7 @@ use Rattle.row_pred.specs.Cell.{cell_at}
 
 -- ---- as they are printed
 
--- a cell behind another one
+-- a cell after another one
 abbrev pub spaced_text : Cell → List ℕ
 spaced_text cell = codes " " ++ cell_text cell
 
@@ -24,12 +24,12 @@ cells_text (cell ∷ cells) = cell_text cell ++ flat_map spaced_text cells
 
 -- ---- as they are read
 
--- where the next cell begins: behind a gap, where it is not the first
+-- where the next cell begins: after a gap, where it is not the first
 abbrev pub next_at : List Cell → List ℕ → ℕ → Result ℕ PredRefusal
 next_at [] input place = Ok place
 next_at (cell ∷ cells) input place = map_refusal of_piece (gap_at input place)
 
--- the cells of these columns behind those that were read, and the place after them
+-- the cells of these columns after those that were read, and the place after them
 unfoldable pub cells_from : List Cell → List Column → List ℕ → ℕ → Result (List Cell × ℕ) PredRefusal
 cells_from read [] input place = Ok (read, place)
 cells_from read (column ∷ columns) input place = do

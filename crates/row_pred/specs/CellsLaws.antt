@@ -14,13 +14,13 @@ use Rattle.cell_text.specs.Cell.{cell_text}
 use Rattle.row_pred.specs.Cells.{spaced_text, cells_text, cells_from, cells_at, cells_of}
 use Rattle.row_pred.specs.CellLaws.{stops, cell_again, cell_no_space}
 
--- no cell goes on with other cells behind it
+-- no cell goes on with other cells after it
 others_stop : (cells : List Cell) (rest : List ℕ) → stops rest ≡ true
     → stops (flat_map spaced_text cells ++ rest) ≡ true
 others_stop [] rest s = s
 others_stop (cell ∷ cells) rest s = refl
 
--- the cells behind those that were read, of which there are some
+-- the cells after those that were read, of which there are some
 others_again : (first : Cell) (read : List Cell) (columns : List Column) (cells : List Cell) (input rest : List ℕ)
     (place : ℕ) → fits_row columns cells ≡ true → list_all has_real_bytes cells ≡ true
     → drop place input ≡ flat_map spaced_text cells ++ rest → stops rest ≡ true

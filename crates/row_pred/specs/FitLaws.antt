@@ -95,7 +95,7 @@ row_on column columns cell cells may row = (
       (list_all has_real_bytes cells) may.1 row.1,
 )
 
--- the cells behind those that were read are a row of these columns
+-- the cells after those that were read are a row of these columns
 abbrev IsRowBehind : List Cell → List Column → List Cell × ℕ → Type 0
 IsRowBehind read columns cells = (more : List Cell) × (cells.0 ≡ read ++ more) × IsRow columns more
 
@@ -110,7 +110,7 @@ behind_cell read column columns cell cells may others = (
       others.2,
 )
 
--- the cells that are read behind others are a row of the columns that were left
+-- the cells that are read after others are a row of the columns that were left
 pub cells_fit_behind : (columns : List Column) (read : List Cell) (input : List ℕ) (place : ℕ)
     → IfOk (cells_from read columns input place) (IsRowBehind read columns)
 unfolding cells_from fits_row

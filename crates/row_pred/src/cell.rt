@@ -24,7 +24,7 @@ use std::alloc::{AllocError, Global};
 /// The words of cells, and none else.
 const WORDS: [&str; 3] = ["null", "true", "false"];
 
-/// The cell of the column at `place`, a count of bytes from 0, and the place after it.
+/// The cell of the column at `place`, a byte offset from 0, and the place after it.
 pub fn take_cell(
     alloc: Global,
     text: &str,
@@ -39,7 +39,7 @@ pub fn take_cell(
     fitted(column, place, read)
 }
 
-/// Puts the text of the cell behind `out`.
+/// Appends the text of the cell to `out`.
 pub fn put_cell(out: &mut String, cell: &Cell) -> Result<(), AllocError>
     ensures { OnOk result (string_bytes out.new ≡ string_bytes out.old ++ cell_text cell.now) }
 {

@@ -41,7 +41,7 @@ pub fn print_cells(alloc: Global, cells: &Cells) -> Result<Text, AllocError>
     Ok(Text::from_string(out))
 }
 
-/// The row at `place`, a count of bytes from 0: a cell for each column, in their order. Beside it
+/// The row at `place`, a byte offset from 0: a cell for each column, in their order. Beside it
 /// the place after it.
 pub fn take_cells(
     alloc: Global,
@@ -67,7 +67,7 @@ pub fn take_cells(
     Ok((List::from_vec(cells), at))
 }
 
-/// Puts the text of the cells behind `out`.
+/// Appends the text of the cells to `out`.
 pub fn put_cells(out: &mut String, cells: &[Cell]) -> Result<(), AllocError>
     ensures { OnOk result (string_bytes out.new ≡ string_bytes out.old ++ cells_text cells.now) }
 {
@@ -78,7 +78,7 @@ pub fn put_cells(out: &mut String, cells: &[Cell]) -> Result<(), AllocError>
     put_others(out, others)
 }
 
-/// Where the next cell begins behind those before it: behind a gap, where it is not the first.
+/// Where the next cell begins after those before it: after a gap, where it is not the first.
 fn next_cell(text: &str, place: usize, before: &Vec<Cell>) -> Result<usize, PredRefusal>
     requires { place ≤ length text.now }
     ensures exact { result ≡ next_at before.now.items text.now place }
@@ -90,7 +90,7 @@ fn next_cell(text: &str, place: usize, before: &Vec<Cell>) -> Result<usize, Pred
     Ok(take_gap(text, place)?)
 }
 
-/// Puts the text of the cells that stand behind another one.
+/// Puts the text of the cells after another one.
 fn put_others(out: &mut String, cells: &[Cell]) -> Result<(), AllocError>
     ensures { OnOk result (string_bytes out.new
         ≡ string_bytes out.old ++ flat_map spaced_text cells.now) }

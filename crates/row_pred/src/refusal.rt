@@ -19,7 +19,7 @@ pub enum PredRefusal {
     Misfit { place: u64 },
     /// The column with this id is required, and its cell is null.
     NotNull { column: i32 },
-    /// There was no memory.
+    /// Memory ran out.
     Memory,
 }
 

@@ -8,7 +8,7 @@ use Rattle.row_types.specs.declared.row.Row.{Row}
 use Rattle.row_types.specs.declared.row.StoredRow.{StoredRow}
 use Rattle.stored_rows.specs.declared.refusal.RowRefusal.{RowRefusal}
 use Rattle.stored_rows.specs.Refusal.{is_memory}
-use Rattle.row_reading.specs.File.{rows_of}
+use Rattle.row_reading.specs.File.{file_size, rows_of}
 use Rattle.stored_rows.specs.Rows.{rows_from}
 use Rattle.stored_rows.specs.Stored.{StoresRows, ReadsRows, AreRead}
 
@@ -20,7 +20,7 @@ Found = (bytes : List ℕ) (columns : List Column) (first : Option ℤ) (sequenc
 -- what is stored is read
 abbrev Only : Type 0
 Only = (bytes : List ℕ) (columns : List Column) (first : Option ℤ) (sequence : ℤ) (told : Option ℤ) (stored : List StoredRow)
-    → StoresRows bytes columns stored → AreRead first told (length bytes) (length stored)
+    → StoresRows bytes columns stored → AreRead first told (file_size bytes stored)
     → rows_of bytes columns first sequence told ≡ Ok (rows_from first sequence 0 stored)
 
 -- the file stores the rows that are seen of the answer
@@ -31,6 +31,6 @@ is_found rows_found view bytes columns first sequence told (Err e) given = tt
 
 -- and the rows that it stores are seen
 pub is_only : {X : Type 0} (rows_only : Only) (view : X → List Row) (bytes : List ℕ) (columns : List Column) (first : Option ℤ) (sequence : ℤ) (told : Option ℤ) (result : Result X RowRefusal) → Gives is_memory view result (rows_of bytes columns first sequence told)
-    → (stored : List StoredRow) → StoresRows bytes columns stored → AreRead first told (length bytes) (length stored) → Gives is_memory view result (Ok (rows_from first sequence 0 stored))
+    → (stored : List StoredRow) → StoresRows bytes columns stored → AreRead first told (file_size bytes stored) → Gives is_memory view result (Ok (rows_from first sequence 0 stored))
 is_only rows_only view bytes columns first sequence told (Ok x) given stored stores read = sym (rows_only bytes columns first sequence told stored stores read) ∙ given
 is_only rows_only view bytes columns first sequence told (Err e) given stored stores read = refused_so (is_memory e) (λ refused. sym (rows_only bytes columns first sequence told stored stores read) ∙ refused) given

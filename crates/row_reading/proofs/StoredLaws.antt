@@ -25,7 +25,7 @@ use Rattle.objects.specs.Object.{Agrees}
 use Rattle.objects.specs.HeldLaws.{objects_found, objects_only}
 use Rattle.objects.specs.CountLaws.{held_counted}
 use Rattle.stored_rows.specs.declared.refusal.RowRefusal.TheVariants.{Rest}
-use Rattle.row_reading.specs.File.{row_at, check_counts, check_told, check_ids, schema_in, Opened, opened, rows_in, rows_of}
+use Rattle.row_reading.specs.File.{file_size, row_at, check_counts, check_told, check_ids, schema_in, Opened, opened, rows_in, rows_of}
 use Rattle.stored_rows.specs.Rows.{rows_from}
 use Rattle.stored_rows.specs.Stored.{AreReadable, StoresRow, StoresRows, ReadsRows, AreRead}
 use Rattle.stored_rows.specs.FieldLaws.{fields_readable, fields_checked}
@@ -99,7 +99,7 @@ module _ (laws : Laws) where
       }))
 
   -- rows that are stored, and are few, are read
-  rows_in_again : (bytes : List ℕ) (columns : List Column) (stored : List StoredRow) (stores : StoresRows bytes columns stored) (first told : Option ℤ) → AreRead first told (length bytes) (length stored) → rows_in columns (stores.container, stores.schema) ≡ Ok stored
+  rows_in_again : (bytes : List ℕ) (columns : List Column) (stored : List StoredRow) (stores : StoresRows bytes columns stored) (first told : Option ℤ) → AreRead first told (file_size bytes stored) → rows_in columns (stores.container, stores.schema) ≡ Ok stored
   unfolding rows_in
   rows_in_again bytes columns stored stores first told read =
       let schema = stores.schema in
@@ -107,7 +107,7 @@ module _ (laws : Laws) where
       let Stores = StoresRow columns schema in
       let fields = fields_checked (fields_of schema) columns stores.readable in
       let many = held_counted Stores blocks stored stores.blocks in
-      let counts = counts_few blocks 0 (omega (arith, read.within.few, many)) in
+      let counts = counts_few blocks 0 (omega (arith, read.within.rows, many)) in
       rw (fields, counts) (objects_only (row_at schema columns) Stores (agrees schema columns stores.readable) Rest blocks stored stores.blocks)
 
   -- ---- the checks
@@ -139,10 +139,10 @@ module _ (laws : Laws) where
       record { stored = stored; stores = stores_rows bytes columns file stored (opened_is bytes file file_read) stored_read; read = sym (ok_is (rows_from first sequence 0 stored) rows made) }))))
 
   -- what the file stores is read
-  pub rows_only : (bytes : List ℕ) (columns : List Column) (first : Option ℤ) (sequence : ℤ) (told : Option ℤ) (stored : List StoredRow) → StoresRows bytes columns stored → AreRead first told (length bytes) (length stored)
+  pub rows_only : (bytes : List ℕ) (columns : List Column) (first : Option ℤ) (sequence : ℤ) (told : Option ℤ) (stored : List StoredRow) → StoresRows bytes columns stored → AreRead first told (file_size bytes stored)
       → rows_of bytes columns first sequence told ≡ Ok (rows_from first sequence 0 stored)
   unfolding rows_of
   rows_only bytes columns first sequence told stored stores read =
-      let file = opened_again bytes stores.container stores.schema stores.text stores.framed stores.bound stores.written read.within.size in
+      let file = opened_again bytes stores.container stores.schema stores.text stores.framed stores.bound stores.written read.within.bytes in
       let rows = rows_in_again bytes columns stored stores first told read in
       rw (file, rows, told_passes told (length stored) read.as_told, ids_pass first (length stored) read.ids) refl

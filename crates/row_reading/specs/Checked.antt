@@ -16,7 +16,7 @@ use Rattle.stored_rows.specs.Rows.{rows_from}
 use Rattle.row_reading.specs.Wanted.{row_of_cells, row_in_record}
 use Rattle.row_reading.specs.Checking.{Rows, HaveIds}
 
--- the row that is shown, and those behind it
+-- the row that is shown, and those after it
 pub record Shown : Type 0 where
   pub row : Row
   pub left : List Row

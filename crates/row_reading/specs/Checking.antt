@@ -39,7 +39,7 @@ check_all_rows rows first told = do
   _ ← check_told told (length stored)
   check_ids first (length stored)
 
--- the ids of so many rows are longs if the file has a first one
+-- the ids of `count` rows are longs if the file has a first one
 abbrev pub HaveIds : Option ℤ → ℕ → Type 0
 HaveIds first many = IfSome first (λ id. (id +ℤ pos many) <ℤ pos (2 ^ 63))
 

@@ -37,7 +37,7 @@ with_field before field (Some id) =
     (column_of_type id (out-Field field).name (nullable (out-Field field).schema))
     else Ok before
 
--- the columns of fields, behind those before them
+-- the columns of fields, after those before them
 unfoldable pub columns_from : List Column → List Field → Result (List Column) RowRefusal
 columns_from before [] = Ok before
 columns_from before (field ∷ fields) =

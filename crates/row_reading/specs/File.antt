@@ -21,9 +21,13 @@ use Rattle.stored_rows.specs.declared.refusal.RowRefusal.TheVariants.{Rest, Reco
 use Rattle.stored_rows.specs.Refusal.{container_refusal, schema_refusal}
 use Rattle.fields.specs.Wanted.{fields_of}
 use Rattle.stored_rows.specs.Field.{check_fields}
-use Rattle.limits.specs.Limits.{most_rows}
+use Rattle.limits.specs.Limits.{FileSize, most_rows}
 use Rattle.stored_rows.specs.Rows.{rows_from}
 use Rattle.row_reading.specs.Wanted.{row_wanted, row_in_record}
+
+-- what of a file that stores these rows has a limit
+abbrev pub file_size : List ℕ → List StoredRow → FileSize
+file_size bytes stored = record { bytes = length bytes; rows = length stored }
 
 -- ---- a row
 

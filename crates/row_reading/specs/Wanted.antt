@@ -44,6 +44,6 @@ field_refusal (fields.MissingField id) = Kind id
 field_refusal (fields.NoValue refusal) = Datum refusal
 field_refusal fields.Memory = Memory
 
--- the row of the record at a place, and the place behind it
+-- the row of the record at a place, and the place after it
 abbrev pub row_in_record : Schema → List Wanted → Reader StoredRow RowRefusal
 row_in_record schema wanted = value_at row_of_cells field_refusal schema wanted

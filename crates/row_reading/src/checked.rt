@@ -13,7 +13,7 @@ ghost use Rattle.stored_rows.specs.Field.{check_fields};
 ghost use Rattle.limits.specs.Limits.{most_rows};
 ghost use Rattle.stored_rows.specs.Rows.{rows_from};
 ghost use Rattle.stored_rows.specs.Stored.{StoresRows, ReadsRows, AreRead};
-ghost use Rattle.row_reading.specs.File.{rows_of};
+ghost use Rattle.row_reading.specs.File.{file_size, rows_of};
 ghost use Rattle.row_reading.specs.Checking.{check_before_rows, rows_in_blocks, check_all_rows};
 ghost use Rattle.row_reading.specs.Checking.{AreRight, all_rows, rows_opened};
 ghost use Rattle.row_reading.specs.Checked.{row_by, rows_left, AreReady};
@@ -34,7 +34,7 @@ use stored_rows::{RowRefusal, check_fields, row_id, row_last};
 
 /// The rows of a file, all of which were checked, shown one after the other. Their texts and bytes
 /// are borrowed from the file, and showing one takes no memory. Contracts see the row that is
-/// shown, and the list of those behind it.
+/// shown, and the list of those after it.
 #[derive(Drop)]
 pub struct CheckedRows<'a> {
     rows: Objects<'a, Records<FileRow>>,
@@ -116,7 +116,7 @@ pub fn check_file<'a>(
     ensures found { IfOk result (λ rows.
         ReadsRows bytes.now columns.now first sequence rows.left) }
     ensures only { (stored : List AStoredRow) → StoresRows bytes.now columns.now stored
-        → AreRead first told (length bytes.now) (length stored)
+        → AreRead first told (file_size bytes.now stored)
         → Gives is_memory (λ rows. rows.left) result (Ok (rows_from first sequence 0 stored)) }
     // Which refusal comes.
     ensures exact { Gives is_memory (λ rows. rows.left) result

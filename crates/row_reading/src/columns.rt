@@ -122,7 +122,7 @@ fn checked(list: Vec<Column>) -> Result<Columns, RowRefusal>
     }
 }
 
-/// The id of the first column with a wrong name; 0 where there is none.
+/// The id of the first column with a wrong name; 0 if there is none.
 fn id_of_wrong_name(columns: &[Column]) -> i32
     ensures { result ≡ id_of (first_fault wrong_name [] columns.now) }
 {

@@ -14,7 +14,7 @@ use schema_tree::Schema;
 use std::alloc::Global;
 use stored_rows::RowRefusal;
 
-/// The file's blocks, to be lent from the first one on, and its schema. The whole framing is
+/// The file's blocks, to be borrowed from the first one on, and its schema. The whole framing is
 /// checked before the schema is read. Avro spec, "Object Container Files".
 #[tactic(auto, unfolding(crate::specs::File::opened))]
 pub fn open_file(alloc: Global, bytes: &[u8]) -> Result<(Walk<'_>, Schema), RowRefusal>

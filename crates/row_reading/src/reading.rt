@@ -1,11 +1,11 @@
 //! Reading all rows of a file.
 
-ghost use Rattle.std.specs.Prelude.{◌≡◌, List, length, map, Ok, IfOk};
+ghost use Rattle.std.specs.Prelude.{◌≡◌, List, map, Ok, IfOk};
 ghost use Rattle.words.specs.Reading.{Gives};
 ghost use Rattle.row_types.specs.declared.row.StoredRow.{StoredRow as AStoredRow};
 ghost use Rattle.stored_rows.specs.Refusal.{is_memory};
 ghost use Rattle.row_types.specs.CellRef.{lent_cell};
-ghost use Rattle.row_reading.specs.File.{rows_of};
+ghost use Rattle.row_reading.specs.File.{file_size, rows_of};
 ghost use Rattle.stored_rows.specs.Rows.{rows_from};
 ghost use Rattle.stored_rows.specs.Stored.{StoresRows, ReadsRows, AreRead};
 
@@ -30,7 +30,7 @@ pub fn read_rows(
     // The rows are those that the file stores, and what it stores is read.
     ensures found { IfOk result (λ rows. ReadsRows bytes.now columns.now first sequence rows) }
     ensures only { (stored : List AStoredRow) → StoresRows bytes.now columns.now stored
-        → AreRead first told (length bytes.now) (length stored)
+        → AreRead first told (file_size bytes.now stored)
         → Gives is_memory (λ rows. rows) result (Ok (rows_from first sequence 0 stored)) }
     // Which refusal comes.
     ensures exact { Gives is_memory (λ rows. rows) result
@@ -56,7 +56,7 @@ fn read_all(
     Ok(rows_left(alloc, shown)?)
 }
 
-/// The rows that were not shown. What was lent of the file is let go.
+/// The rows that were not shown. What was borrowed of the file is let go.
 fn rows_left(alloc: Global, mut shown: CheckedRows<'_>) -> Result<RowList, AllocError>
     ensures { IfOk result (λ rows. rows ≡ shown.entry.left) }
 {

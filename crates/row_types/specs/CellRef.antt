@@ -5,7 +5,7 @@ use Rattle.row_types.specs.declared.cell.Cell.TheVariants as cells
 use Rattle.row_types.specs.declared.cell_ref.CellRef.{CellRef}
 use Rattle.row_types.specs.declared.cell_ref.CellRef.TheVariants as refs
 
--- the cell that is lent
+-- the cell that is borrowed
 abbrev pub lent_cell : CellRef → Cell
 lent_cell refs.Null = cells.Null
 lent_cell (refs.Flag flag) = cells.Flag flag

@@ -1,4 +1,4 @@
--- Which lists are the columns of a table, and which fault of a list is told.
+-- Which lists are the columns of a table, and which fault of a list is reported.
 use Rattle.std.specs.Prelude.{◌≢◌, ℕ, ◌≤◌, ℤ, pos, ◌≤ℤ◌, int_lt, Bool, ◌||◌, List, [], ◌∷◌, ◌++◌, length, All, Result}
 use Rattle.std.specs.Prelude.{Ok, Err, nat_lt, if◌then◌else◌}
 use Rattle.std.specs.declared.option.Option.{Option}
@@ -32,9 +32,9 @@ pub record IsColumns (list : List Column) : Type 0 where
   pub names : All (λ column. (1 ≤ length column.name) × (length column.name ≤ most_name_bytes)) list
   pub distinct_names : AllPairs (λ a b. a.name ≢ b.name) list
 
--- ---- the fault that is told
+-- ---- the fault that is reported
 
--- the first item that is at fault behind those before it
+-- the first item that is at fault after those before it
 abbrev pub first_fault : {X : Type 0} → (List X → X → Bool) → List X → List X → Option X
 first_fault is_fault before [] = None
 first_fault is_fault before (x ∷ rest) =

@@ -8,7 +8,7 @@ use Rattle.row_types.specs.declared.column.Column.{Column}
 use Rattle.row_types.specs.declared.column.Kind.{Kind}
 use Rattle.row_types.specs.declared.column.Kind.TheVariants as kinds
 
--- a number of so many bits besides its sign
+-- a number of `count` bits besides its sign
 abbrev pub is_signed : ℕ → ℤ → Bool
 is_signed bits number = not (int_lt number (negsuc (2 ^ bits - 1))) && int_lt number (pos (2 ^ bits))
 
@@ -32,7 +32,7 @@ has_number kinds.Boolean number = false
 has_number kinds.Text number = false
 has_number kinds.Bytes number = false
 
--- a kind has truth values
+-- a kind has booleans
 abbrev pub has_flags : Kind → Bool
 has_flags kinds.Boolean = true
 has_flags kinds.Int = false

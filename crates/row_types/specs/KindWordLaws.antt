@@ -1,4 +1,4 @@
--- A law of the words of the kinds: each kind has one, that is read as it where a colon stands behind it.
+-- A law of the words of the kinds: each kind has one, that is read as it where a colon stands after it.
 use Rattle.std.specs.Prelude.{◌≡◌, ℕ, ◌==◌, Bool, true, false, ◌&&◌, nat_lt, if◌then◌else◌, List, [], ◌∷◌, ◌++◌, Some}
 use Rattle.std.specs.Prelude.{codes, slice_get, take}
 use Rattle.std.specs.List.{list_all}
@@ -23,7 +23,7 @@ abbrev pub is_graphic : ℕ → Bool
 is_graphic byte = nat_lt 32 byte && nat_lt byte 127
 
 -- the kind has a word of such characters at a place among the words, and no word before it can be taken for it if a
--- colon stands behind it
+-- colon stands after it
 pub record HasWord (kind : Kind) : Type 0 where
   pub place : ℕ
   pub means : kind_of_word place ≡ kind

@@ -8,7 +8,7 @@ use avro_wire::{Bytes, Text};
 use lists::{Copied, List};
 use std::alloc::{AllocError, Global};
 
-/// What stands in one column of a row.
+/// What is in one column of a row.
 #[derive(Drop)]
 pub enum Cell {
     Null,
@@ -23,7 +23,7 @@ pub enum Cell {
 pub type Cells = List<Cell>;
 
 impl Cell {
-    /// The cell, lent.
+    /// The cell, borrowed.
     pub fn lend(&self) -> CellRef<'_>
         ensures { lent_cell result ≡ self.now }
     {

@@ -7,7 +7,7 @@ use crate::cell::Cell;
 use avro_wire::{Bytes, Text};
 use std::alloc::{AllocError, Global};
 
-/// What stands in one column of a row: a `Cell` whose text or bytes are borrowed.
+/// What is in one column of a row: a `Cell` whose text or bytes are borrowed.
 #[derive(Clone, Copy)]
 pub enum CellRef<'a> {
     Null,
@@ -39,7 +39,7 @@ impl<'a> CellRef<'a> {
         matches!(self, CellRef::Null)
     }
 
-    /// The number; None where it is none.
+    /// The number; None if it is none.
     pub fn number(self) -> Option<i64>
         ensures { result ≡ number_of (lent_cell self.entry) }
     {

@@ -30,7 +30,7 @@ pub enum ColumnsRefusal {
     Id { id: i32 },
     /// The first name that is empty, longer than 255 bytes, or that a column before it has.
     Name { name: Text },
-    /// There was no memory.
+    /// Memory ran out.
     Memory,
 }
 
@@ -79,7 +79,7 @@ impl Columns {
         check(list)
     }
 
-    /// The columns, lent.
+    /// The columns, borrowed.
     pub fn as_slice(&self) -> &[Column]
         ensures all { result.now ≡ self.now }
         ensures right { IsColumns self.now }
@@ -149,7 +149,7 @@ fn place_of_wrong_id(columns: &[Column]) -> Option<usize>
     None
 }
 
-/// Whether the column's id is wrong behind the columns before it.
+/// Whether the column's id is wrong after the columns before it.
 fn has_wrong_id(before: &[Column], column: &Column) -> bool
     ensures { result ≡ wrong_id before.now column.now }
 {
@@ -178,7 +178,7 @@ fn place_of_wrong_name(columns: &[Column]) -> Option<usize>
     None
 }
 
-/// Whether the column's name is wrong behind the columns before it.
+/// Whether the column's name is wrong after the columns before it.
 fn has_wrong_name(before: &[Column], column: &Column) -> bool
     ensures { result ≡ wrong_name before.now column.now }
 {

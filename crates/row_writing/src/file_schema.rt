@@ -132,7 +132,7 @@ fn is_avro_name(name: &[u8]) -> bool
     }
 }
 
-/// Whether the bytes may all stand behind the first one of a name.
+/// Whether the bytes may all stand after the first one of a name.
 fn all_go_on(bytes: &[u8]) -> bool
     ensures { result ≡ list_all goes_on bytes.now }
 {
@@ -146,7 +146,7 @@ fn begins_name(byte: u8) -> bool
     byte.is_ascii_alphabetic() || byte == b'_'
 }
 
-/// Whether the byte may stand behind the first one of a name.
+/// Whether the byte may stand after the first one of a name.
 fn goes_on_name(byte: u8) -> bool
     ensures { result ≡ goes_on byte }
 {

@@ -9,7 +9,7 @@ use std::env;
 use std::io::ErrorKind;
 use std::process::ExitCode;
 
-/// The words behind the program's name. One that isn't UTF-8 is a word of no command.
+/// The words after the program's name. One that isn't UTF-8 is a word of no command.
 fn words_of(rt: &HostRuntime) -> Result<Vec<Text>, Ending> {
     let arguments = match env::args(rt) {
         Ok(arguments) => arguments,

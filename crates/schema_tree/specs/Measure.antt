@@ -1,4 +1,4 @@
--- How deep and how large fields and branches are, and what is left of a count behind a schema.
+-- How deep and how large fields and branches are, and what is left of a count after a schema.
 use Rattle.std.specs.Prelude.{ℕ, ◌-◌, List, Option, Some, None, nat_lt, map, if◌then◌else◌}
 use Rattle.std.specs.List.{sum}
 use Rattle.schema_tree.specs.declared.schema.Schema.{Schema}

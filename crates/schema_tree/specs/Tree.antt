@@ -6,7 +6,7 @@ use Rattle.schema_tree.specs.declared.schema.Schema.TheOpen.{Schema-F, Field-F, 
 use Rattle.schema_tree.specs.declared.schema.Schema.TheOpen.{Double, Raw, Str, Fixed, Enum, Rec, Array, Map, Union}
 use Rattle.schema_tree.specs.declared.schema.Schema.TheFolds.{fold-Schema}
 
--- the largest of the numbers; 0 where there is none
+-- the largest of the numbers; 0 if there is none
 abbrev pub largest : List ℕ → ℕ
 largest [] = 0
 largest (n ∷ ns) = max n (largest ns)

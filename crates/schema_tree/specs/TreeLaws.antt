@@ -16,7 +16,7 @@ use Rattle.schema_tree.specs.Measure.{depth_of_fields, depth_of_branches, size_o
 
 -- ---- a schema without another one in it
 
--- no schema stands in it
+-- no schema is in it
 pub record IsAlone (schema : Schema) : Type 0 where
   pub depth : depth schema ≡ 1
   pub size : size schema ≡ 1
@@ -28,7 +28,7 @@ alone-Null = record {
   size = ap size (sym rolls-Null) ∙ fold-roll-Schema ℕ ℕ size_of number_of_field layers.Null;
 }
 
--- of a truth value
+-- of a boolean
 pub alone-Boolean : IsAlone schemas.Boolean
 alone-Boolean = record {
   depth = ap depth (sym rolls-Boolean) ∙ fold-roll-Schema ℕ ℕ depth_of number_of_field layers.Boolean;
@@ -146,20 +146,20 @@ module _ (values : Schema) (key_id value_id : Option ℤ) where
       ap size (sym (rolls-Map values key_id value_id))
       ∙ fold-roll-Schema ℕ ℕ size_of number_of_field (layers.Map values key_id value_id)
 
--- ---- fields behind others
+-- ---- fields after others
 
 -- a field of the name, the id and the schema
 abbrev pub field_of : List ℕ → Option ℤ → Schema → Field
 field_of name id schema = roll-Field (record { name = name; id = id; schema = schema })
 
--- the first field, and those behind it
+-- the first field, and those after it
 size_cons : (field : Field) (fields : List Field)
     → size_of_fields (field ∷ fields) ≡ fold-Field ℕ ℕ size_of number_of_field field + size_of_fields fields
 size_cons field fields =
     sum_by-cons (λ (n : ℕ). n) (fold-Field ℕ ℕ size_of number_of_field field)
     (map (fold-Field ℕ ℕ size_of number_of_field) fields)
 
--- the first branch, and those behind it
+-- the first branch, and those after it
 pub branches_cons : (branch : Schema) (branches : List Schema)
     → size_of_branches (branch ∷ branches) ≡ size branch + size_of_branches branches
 branches_cons branch branches = sum_by-cons (λ (n : ℕ). n) (size branch) (map size branches)

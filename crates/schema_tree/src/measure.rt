@@ -57,7 +57,7 @@ fn are_branches_within(branches: &Branches, room: usize) -> bool
     true
 }
 
-/// What is left of `left` once each schema that stands in this one is counted, itself among them.
+/// What is left of `left` once each schema that is in this one is counted, itself among them.
 /// `None`: there are more of them than `left`.
 #[cycle(size)]
 pub fn take_size(schema: &Schema, left: usize) -> Option<usize>

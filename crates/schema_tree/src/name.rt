@@ -17,7 +17,7 @@ fn has_dot(name: &str) -> bool
     false
 }
 
-/// The full name that the name has in the namespace, which is empty where there is none. An `Err`
+/// The full name that the name has in the namespace, which is empty if there is none. An `Err`
 /// says that memory ran out.
 pub fn full_name(alloc: Global, namespace: &str, name: &str) -> Result<Text, AllocError>
     ensures { IfOk result (λ full. full ≡ spec.full_name namespace.now name.now) }
@@ -28,7 +28,7 @@ pub fn full_name(alloc: Global, namespace: &str, name: &str) -> Result<Text, All
     Ok(Text::from_string(format!(in alloc; "{namespace}.{name}")?))
 }
 
-/// The namespace of a full name: what stands before its last dot. Empty: there is none.
+/// The namespace of a full name: what comes before its last dot. Empty: there is none.
 pub fn namespace_of(name: &str) -> &str
     ensures { result.now ≡ spec.namespace_of name.now }
 {

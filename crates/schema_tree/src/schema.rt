@@ -37,7 +37,7 @@ pub struct Field {
 pub enum Schema {
     /// The one value null.
     Null,
-    /// A truth value.
+    /// A boolean.
     Boolean,
     /// A signed number of 32 bits.
     Int(Logical),

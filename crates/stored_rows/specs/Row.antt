@@ -36,7 +36,7 @@ read_row first sequence position stored = record {
 
 -- ---- from values to rows
 
--- the cell of a field that was found; null where there is none
+-- the cell of a field that was found; null if there is none
 abbrev pub cell_at : List Datum → Option Found → Cell
 cell_at values None = cells.Null
 cell_at values (Some found) = cell_of (slice_get values found.0)

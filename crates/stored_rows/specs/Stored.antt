@@ -2,7 +2,7 @@
 -- Avro 1.11, "Object Container Files"; Iceberg spec, "Column Projection", "Row Lineage".
 use Rattle.std.specs.Prelude.{◌≡◌, ℕ, ◌^◌, ◌-◌, ℤ, pos, ◌+ℤ◌, ◌≤ℤ◌, true, false, List, [], ◌∷◌}
 use Rattle.std.specs.Prelude.{All, Option, Some, None, IfSome}
-use Rattle.limits.specs.Limits.{IsWithinLimits}
+use Rattle.limits.specs.Limits.{FileSize, IsWithinLimits}
 use Rattle.row_types.specs.declared.cell.Cell.{Cell}
 use Rattle.row_types.specs.declared.column.Column.{Column}
 use Rattle.row_types.specs.declared.column.Kind.TheVariants as kinds
@@ -50,7 +50,7 @@ pub record AreReadable (columns : List Column) (fields : List Field) : Type 0 wh
 
 -- ---- the rows
 
--- no null stands in a required column
+-- no null is in a required column
 abbrev pub HasNoNull : List Column → List Cell → Type 0
 HasNoNull [] cells = Unit {0}
 HasNoNull (column ∷ columns) [] = Unit {0}
@@ -83,9 +83,9 @@ pub record ReadsRows (bytes : List ℕ) (columns : List Column) (first : Option 
   pub stores : StoresRows bytes columns stored
   pub read : rows ≡ rows_from first sequence 0 stored
 
--- so many rows of a file of so many bytes are read: they are within the limits, as many as the caller says, and the
+-- the rows of a file of this size are read: it is within the limits, they are as many as the caller says, and the
 -- file's first row id plus their number is at most the largest long
-pub record AreRead (first told : Option ℤ) (bytes rows : ℕ) : Type 0 where
-  pub within : IsWithinLimits bytes rows
-  pub as_told : IfSome told (λ number. number ≡ pos rows)
-  pub ids : IfSome first (λ id. (id +ℤ pos rows) ≤ℤ pos (2 ^ 63 - 1))
+pub record AreRead (first told : Option ℤ) (size : FileSize) : Type 0 where
+  pub within : IsWithinLimits size
+  pub as_told : IfSome told (λ number. number ≡ pos size.rows)
+  pub ids : IfSome first (λ id. (id +ℤ pos size.rows) ≤ℤ pos (2 ^ 63 - 1))

@@ -28,7 +28,7 @@ pub enum RowRefusal {
     Kind { id: i32 },
     /// The bytes of a row spell none. Its places count from the start of the block's bytes.
     Datum(DatumRefusal),
-    /// Bytes are left behind the last row of the block. Blocks count from 1.
+    /// Bytes are left after the last row of the block. Blocks count from 1.
     Rest { block: u64 },
     /// The caller says that the file has another number of rows.
     RecordCount { told: i64, found: i64 },
@@ -37,7 +37,7 @@ pub enum RowRefusal {
     /// A quantity is above its limit: the bytes of the file, or its rows. `found`: how many there
     /// are; of rows that are read, how many up to the first block that passes the limit.
     Limit { which: Which, found: u64 },
-    /// There was no memory.
+    /// Memory ran out.
     Memory,
 }
 

@@ -34,7 +34,7 @@ pub if_renamed : {X E F : Type 0} (P : X → Type 0) (name : E → F) (read : Re
 if_renamed P name (Ok x) h = h
 if_renamed P name (Err refusal) h = tt
 
--- of a second reader behind the first
+-- of a second reader after the first
 pub if_then : {X Y E : Type 0} (P : X → Type 0) (Q : Y → Type 0) (read : Result X E) (next : X → Result Y E)
     → IfOk read P → ((x : X) → P x → IfOk (next x) Q) → IfOk (read >>= next) Q
 if_then P Q (Ok x) next h on = on x h

@@ -1,4 +1,4 @@
--- What follows of readers put one behind another, for the loops and the exits of the code.
+-- What follows of readers put one after another, for the loops and the exits of the code.
 use Rattle.std.specs.Prelude.{◌≡◌, ℕ, suc, ◌+◌, ◌-◌, ◌<◌, ◌≤◌, Bool, true, false, Result, Ok, Err}
 use Rattle.std.specs.Bool.{OnFalse}
 use Rattle.std.proofs.Common.{sym, ap, ◌∙◌, arith}

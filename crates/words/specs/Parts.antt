@@ -1,11 +1,11 @@
--- Bytes at a place of an input, one part behind the other.
+-- Bytes at a place of an input, one part after the other.
 use Rattle.std.proofs.Common.{◌≡◌, ℕ, ◌+◌, ◌-◌, ◌<◌, ◌≤◌, List, [], ◌++◌, length, drop, slice_range, refl, sym, ap}
 use Rattle.std.proofs.Common.{◌∙◌, append_assoc, arith}
 use Rattle.std.proofs.lemmas.List.{length-drop, length-append, length-take-le, take-append-drop, drop-drop, drop_at}
 use Rattle.std.proofs.lemmas.List.{take_at}
 use Rattle.words.specs.Grammar.{Joined}
 
--- the input has the bytes from the place on, and the other place is behind them
+-- the input has the bytes from the place on, and the other place is after them
 pub record Stand (input : List ℕ) (place after : ℕ) (bytes : List ℕ) : Type 0 where
   pub rest : List ℕ
   pub parts : drop place input ≡ bytes ++ rest
@@ -19,7 +19,7 @@ pub record Took (input : List ℕ) (place after : ℕ) (P : List ℕ → Type 0)
 
 -- ---- bytes that stand at a place
 
--- what stands behind bytes at a place
+-- what follows bytes at a place
 pub behind_is : (input : List ℕ) (place : ℕ) (bytes rest : List ℕ)
     → drop place input ≡ bytes ++ rest → drop (place + length bytes) input ≡ rest
 behind_is input place bytes rest parts =
@@ -39,7 +39,7 @@ enough_are input place size enough =
     let same : place + size - place ≡ size = omega arith in
     rw same (length-take-le size (drop place input) (omega (arith, length-drop place input)))
 
--- they stand there
+-- they are there
 pub enough_stand : (input : List ℕ) (place size : ℕ)
     → size ≤ length input - place → Stand input place (place + size) (slice_range input place (place + size))
 enough_stand input place size enough = record {
@@ -48,13 +48,13 @@ enough_stand input place size enough = record {
   ends = omega (arith, enough_are input place size enough);
 }
 
--- the place behind them is within the input
+-- the place after them is within the input
 pub stand_within : (input : List ℕ) (place after : ℕ) (bytes : List ℕ)
     → place ≤ length input → Stand input place after bytes → after ≤ length input
 stand_within input place after bytes le stand =
     omega (arith, stand.ends, length-drop place input, ap length stand.parts, length-append bytes stand.rest)
 
--- one part behind another
+-- one part after another
 pub stand_then : (input : List ℕ) (place middle after : ℕ) (front back : List ℕ)
     → Stand input place middle front → Stand input middle after back → Stand input place after (front ++ back)
 stand_then input place middle after front back first second =
@@ -67,13 +67,13 @@ stand_then input place middle after front back first second =
       ends = omega (arith, first.ends, second.ends, length-append front back);
     }
 
--- the first part of what stands there
+-- the first part of what is there
 pub stand_first : (input : List ℕ) (place after : ℕ) (front back : List ℕ)
     → Stand input place after (front ++ back) → Stand input place (place + length front) front
 stand_first input place after front back stand =
     record { rest = back ++ stand.rest; parts = stand.parts ∙ append_assoc front back stand.rest; ends = refl }
 
--- what stands behind the first part
+-- what follows the first part
 pub stand_second : (input : List ℕ) (place after : ℕ) (front back : List ℕ)
     → Stand input place after (front ++ back) → Stand input (place + length front) after back
 stand_second input place after front back stand =
@@ -90,7 +90,7 @@ stand_nothing input place = record { rest = drop place input; parts = refl; ends
 
 -- ---- bytes with a property
 
--- one behind another
+-- one after another
 pub took_then : {P Q : List ℕ → Type 0} (input : List ℕ) (place middle after : ℕ)
     → Took input place middle P → Took input middle after Q → Took input place after (Joined P Q)
 took_then input place middle after first second = record {

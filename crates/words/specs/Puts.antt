@@ -1,4 +1,4 @@
--- Texts of items that a loop puts one behind the other.
+-- Texts of items that a loop puts, in order.
 use Rattle.std.proofs.Common.{◌≡◌, ℕ, ◌+◌, ◌<◌, ◌≤◌, List, [], ◌∷◌, ◌++◌, length, take, All, sym, ap, subst, ◌∙◌}
 use Rattle.std.proofs.Common.{append_assoc}
 use Rattle.std.specs.Prelude.{slice_index_or}
@@ -7,7 +7,7 @@ use Rattle.std.proofs.lemmas.Grind.{flat_map-append}
 use Rattle.std.proofs.lemmas.List.{append-nil, take_all, take_more}
 use Rattle.std.proofs.lemmas.List.Elements.{All-nil, All-more}
 
--- the texts of the first items stand behind what was there, and each of those items is such
+-- the texts of the first items stand after what was there, and each of those items is such
 pub record ArePut {A : Type 0} (text : A → List ℕ) (Such : A → Type 0) (items : List A) (i : ℕ) (old new : List ℕ)
     : Type 0 where
   pub so_far : new ≡ old ++ flat_map text (take i items)
@@ -37,7 +37,7 @@ next_put text Such items i old between new item lt is put more such =
       each = All-more Such items i item lt put.each (subst Such is such);
     }
 
--- behind the last item
+-- after the last item
 pub all_put : {A : Type 0} (text : A → List ℕ) (Such : A → Type 0) (items : List A) (i : ℕ) (old new : List ℕ)
     → length items ≤ i → ArePut text Such items i old new → (new ≡ old ++ flat_map text items) × All Such items
 all_put text Such items i old new le put =

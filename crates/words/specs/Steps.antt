@@ -11,7 +11,7 @@ read_as x = Ok x
 pub ok_is : {A E : Type 0} (x y : A) → read_as {E = E} x ≡ read_as y → x ≡ y
 ok_is x y e = cc
 
--- ---- one reader behind another
+-- ---- one reader after another
 
 -- what both steps read
 pub bind_ok : {A B E : Type 0} (r : Result A E) (f : A → Result B E) (y : B)
