@@ -60,8 +60,13 @@ number_few (Some attributes) = omega arith
 
 -- it is known of each type of cells
 plain_level : (schema : Schema) (level : Level) → roll-Schema level ≡ schema → is_cell_level level ≡ true → IsPlainType schema
-plain_level schema layers.Boolean made cells =
-    record { deep = 0; spelled = fold_made spelled_of spelled_field schema layers.Boolean made; levels = omega arith; depth = fold_made depth_of number_of_field schema layers.Boolean made; size = fold_made size_of number_of_field schema layers.Boolean made }
+plain_level schema layers.Boolean made cells = record {
+  deep = 0;
+  spelled = fold_made spelled_of spelled_field schema layers.Boolean made;
+  levels = omega arith;
+  depth = fold_made depth_of number_of_field schema layers.Boolean made;
+  size = fold_made size_of number_of_field schema layers.Boolean made;
+}
 plain_level schema (layers.Int logical) made cells = record {
   deep = number_levels (int_attributes logical);
   spelled = fold_made spelled_of spelled_field schema (layers.Int logical) made ∙ ap (λ (right : Bool). primitive right (number_levels (int_attributes logical))) cells;
@@ -76,8 +81,20 @@ plain_level schema (layers.Long logical) made cells = record {
   depth = fold_made depth_of number_of_field schema (layers.Long logical) made;
   size = fold_made size_of number_of_field schema (layers.Long logical) made;
 }
-plain_level schema layers.Str made cells = record { deep = 0; spelled = fold_made spelled_of spelled_field schema layers.Str made; levels = omega arith; depth = fold_made depth_of number_of_field schema layers.Str made; size = fold_made size_of number_of_field schema layers.Str made }
-plain_level schema layers.Raw made cells = record { deep = 0; spelled = fold_made spelled_of spelled_field schema layers.Raw made; levels = omega arith; depth = fold_made depth_of number_of_field schema layers.Raw made; size = fold_made size_of number_of_field schema layers.Raw made }
+plain_level schema layers.Str made cells = record {
+  deep = 0;
+  spelled = fold_made spelled_of spelled_field schema layers.Str made;
+  levels = omega arith;
+  depth = fold_made depth_of number_of_field schema layers.Str made;
+  size = fold_made size_of number_of_field schema layers.Str made;
+}
+plain_level schema layers.Raw made cells = record {
+  deep = 0;
+  spelled = fold_made spelled_of spelled_field schema layers.Raw made;
+  levels = omega arith;
+  depth = fold_made depth_of number_of_field schema layers.Raw made;
+  size = fold_made size_of number_of_field schema layers.Raw made;
+}
 plain_level schema _ made cells = absurd (false≢true cells)
 
 -- so of the type of each kind
