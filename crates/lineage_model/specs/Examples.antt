@@ -123,8 +123,11 @@ of_a_new_table =
     -- an upgrade, which has every other fault too
     (new, first ∷ entry Upgrade (Some (pos 9)) (ids 0 1 ∷ []) (ids 0 1 ∷ []) None ∷ [], broken 2 rules.Version) ∷
     -- an append that names an id
-    (new, first ∷ entry (Append (rows 1)) (Some (pos 2)) (ids 2 1 ∷ []) (ids 3 1 ∷ []) (Some (pos 4)) ∷ [],
-    broken 2 rules.Named) ∷
+    (
+      new,
+      first ∷ entry (Append (rows 1)) (Some (pos 2)) (ids 2 1 ∷ []) (ids 3 1 ∷ []) (Some (pos 4)) ∷ [],
+      broken 2 rules.Named,
+    ) ∷
     []
 
 pub is_said_of_a_new_table : found of_a_new_table ≡ wanted of_a_new_table
@@ -159,11 +162,17 @@ of_version_2 =
     -- no id for the row without one
     (old, upgrade ∷ append 1 3 (ids 0 1 ∷ []) 1 ∷ [], broken 2 rules.Named) ∷
     -- a given id below a named one
-    (old, upgrade ∷ entry (Append (rows 1)) (Some (pos 3)) (ids 1 1 ∷ []) (ids 0 1 ∷ []) (Some (pos 2)) ∷ [],
-    broken 2 rules.Fresh) ∷
+    (
+      old,
+      upgrade ∷ entry (Append (rows 1)) (Some (pos 3)) (ids 1 1 ∷ []) (ids 0 1 ∷ []) (Some (pos 2)) ∷ [],
+      broken 2 rules.Fresh,
+    ) ∷
     -- no next id in version 3
-    (old, upgrade ∷ entry (Append (rows 1)) (Some (pos 3)) (ids 0 1 ∷ []) (ids 1 1 ∷ []) None ∷ [],
-    broken 2 rules.Next) ∷
+    (
+      old,
+      upgrade ∷ entry (Append (rows 1)) (Some (pos 3)) (ids 0 1 ∷ []) (ids 1 1 ∷ []) None ∷ [],
+      broken 2 rules.Next,
+    ) ∷
     []
 
 pub is_said_of_version_2 : found of_version_2 ≡ wanted of_version_2
@@ -174,8 +183,11 @@ is_said_of_version_2 = refl
 abbrev pub of_starts : Cases
 of_starts =
     -- ids and last changes at both ends
-    (state 3 (Some (pos 9)) (pos 4) [] ((pos 0, (pos 0, [])) ∷ (pos 8, (pos 4, [])) ∷ []), [],
-    Ok (3, 2, 0, Some (pos 9), pos 4)) ∷
+    (
+      state 3 (Some (pos 9)) (pos 4) [] ((pos 0, (pos 0, [])) ∷ (pos 8, (pos 4, [])) ∷ []),
+      [],
+      Ok (3, 2, 0, Some (pos 9), pos 4),
+    ) ∷
     -- rows without ids
     (state 3 (Some (pos 9)) (pos 4) (changed 4 ∷ changed 0 ∷ []) [], [], Ok (3, 0, 2, Some (pos 9), pos 4)) ∷
     -- version 1
@@ -218,8 +230,11 @@ of_large_numbers =
     -- the last id, behind which there is no next one
     (new, append 1 1 (ids (2 ^ 63 - 1) 1 ∷ []) (2 ^ 63 - 1) ∷ [], broken 1 rules.Fresh) ∷
     -- the last sequence number but one
-    (state 3 (Some (pos 0)) (pos (2 ^ 63 - 2)) [] [], compact (2 ^ 63 - 1) [] 0 ∷ [],
-    Ok (3, 0, 0, Some (pos 0), pos (2 ^ 63 - 1))) ∷
+    (
+      state 3 (Some (pos 0)) (pos (2 ^ 63 - 2)) [] [],
+      compact (2 ^ 63 - 1) [] 0 ∷ [],
+      Ok (3, 0, 0, Some (pos 0), pos (2 ^ 63 - 1)),
+    ) ∷
     -- the last one, which has no next one
     (state 3 (Some (pos 0)) (pos (2 ^ 63 - 1)) [] [], compact (2 ^ 63 - 1) [] 0 ∷ [], broken 1 rules.Seq) ∷
     []
