@@ -128,8 +128,8 @@ committed_rows low (Some high) state entry adds lead below named given =
     let news_apart_old = above low high state.rows news below (All-second Between names news lead.1) in
     let news_apart_names = seen_from names news (across names news differ) in
     let news_apart : All (λ id. All (λ other. id ≢ other) (keys_of with_names)) news = λ k d within.
-        All-with_rows (λ other. get_or news k d ≢ other) state.rows (under names state.unnamed) (news_apart_old k d within)
-        (All-under (λ other. get_or news k d ≢ other) names state.unnamed (news_apart_names k d within)) in
+    All-with_rows (λ other. get_or news k d ≢ other) state.rows (under names state.unnamed) (news_apart_old k d within)
+    (All-under (λ other. get_or news k d ≢ other) names state.unnamed (news_apart_names k d within)) in
     let first : length with_names ≡ length state.rows + length state.unnamed = all_more state.rows names state.unnamed (record { distinct = first_pairs names news differ; apart = names_apart }) named in
     let second : length (rows_after state entry (adding adds)) ≡ length with_names + length rows = all_more with_names news rows (record { distinct = second_pairs names news differ; apart = news_apart }) (given ∙ sym (length-map adds (stamped (state.seq +ℤ pos 1)))) in
     omega (arith, first, second, length-map adds (stamped (state.seq +ℤ pos 1)))
