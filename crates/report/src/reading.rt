@@ -22,7 +22,7 @@ pub fn read_entries<T: Taker>(alloc: Global, bytes: &[u8]) -> Result<(Columns, T
     ensures fits { IfOk result (λ read. T.fits read.0 read.1) }
 {
     let mut number = 1;
-    let mut part = Part::Nothing;
+    let mut part: Part<T> = Part::Nothing;
     let mut start = 0;
     for at in 0..bytes.len() {
         if bytes[at] != b'\n' {
