@@ -1,8 +1,11 @@
 -- What an audit prints: that the history of a report is legal, with its size and what it leads to.
-use Rattle.std.specs.Prelude.{ℕ, ◌+◌, List, ◌++◌, length, Result, Ok, codes, decimal}
+use Rattle.std.specs.Prelude.{ℕ, ◌+◌, ℤ, List, ◌++◌, length, Option, Result, Ok, Err, codes, decimal}
 use Rattle.words.specs.Reading.{◌>>=◌, map_refusal}
 use Rattle.history_types.specs.declared.state.State.{State}
+use Rattle.lineage_model.specs.declared.tally.Tally.{Tally}
 use Rattle.lineage_model.specs.History.{Fault, audited}
+use Rattle.history_log.specs.declared.auditor.Audit.{Audit}
+use Rattle.history_log.specs.declared.auditor.Audit.TheVariants as audits
 use Rattle.pieces.specs.Number.{optional_text}
 use Rattle.report.specs.declared.refusal.ReportRefusal.{ReportRefusal}
 use Rattle.report.specs.declared.refusal.ReportRefusal.TheVariants as reports
@@ -16,10 +19,14 @@ abbrev pub row_count : State → ℕ
 row_count state = length state.rows + length state.unnamed
 
 -- the line of a legal history: how many entries there are, how many rows then, and the next id
+abbrev pub legal_text : ℕ → ℕ → Option ℤ → List ℕ
+legal_text entries rows next =
+    spaced (codes "legal")
+    ++ (spaced (decimal entries) ++ (spaced (decimal rows) ++ (optional_text next ++ codes "\n")))
+
+-- the line of so many entries that lead to this state
 abbrev pub legal_line : ℕ → State → List ℕ
-legal_line entries state =
-    spaced (codes "legal") ++ (spaced (decimal entries)
-    ++ (spaced (decimal (row_count state)) ++ (optional_text state.next ++ codes "\n")))
+legal_line entries state = legal_text entries (row_count state) state.next
 
 -- how the run ends for bytes that are no report
 abbrev pub of_report : ReportRefusal → Ending
@@ -36,3 +43,14 @@ audit_answer bytes = do
   report ← map_refusal of_report (report_of bytes)
   state ← map_refusal illegal (audited report.start report.entries)
   Ok (legal_line (length report.entries) state)
+
+-- ---- the same by what an audit finds that takes the entries one by one
+
+-- the line of so many entries that lead to a state with these numbers
+abbrev pub tally_line : ℕ → Tally → List ℕ
+tally_line entries tally = legal_text entries (tally.rows + tally.unnamed) tally.next
+
+-- the line, or the first entry that is not legal
+abbrev pub judged : Audit → Result (List ℕ) Ending
+judged (audits.Legal entries tally) = Ok (tally_line entries tally)
+judged (audits.Illegal entry rule) = Err (Illegal entry rule)

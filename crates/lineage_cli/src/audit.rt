@@ -1,22 +1,22 @@
 //! Answering `audit`: whether the history of a report is legal.
 
 ghost use Rattle.std.specs.Prelude.{◌≡◌, ◌+◌, ◌≤◌, ◌++◌, length, decimal, string_bytes, Ok, IfOk, OnOk};
-ghost use Rattle.words.specs.Reading.{Gives, map_refusal};
-ghost use Rattle.lineage_model.specs.History.{audited};
+ghost use Rattle.words.specs.Reading.{Gives, map_refusal, map_value};
+ghost use Rattle.history_log.specs.Auditing.{audit_begun, audit_more};
 ghost use Rattle.report.specs.Report.{report_of};
-ghost use Rattle.lineage_cli.specs.Audit.{of_report, illegal, legal_line, audit_answer};
+ghost use Rattle.report.specs.Taken.{taken_by};
+ghost use Rattle.lineage_cli.specs.Audit.{of_report, tally_line, judged, audit_answer};
 ghost use Rattle.lineage_cli.specs.Input.{most_input};
 ghost use Rattle.lineage_cli.specs.Run.{answer_to, is_memory, IsOutcome};
 
 use crate::command::Command;
 use crate::ending::Ending;
 use crate::output::write_all;
-use history_log::{HistoryRefusal, audit};
-use history_types::{Entries, State};
+use history_log::{Audit, Tally, audit_agrees};
 use itoa::Buffer;
 use lt_port::{PortError, Sink};
 use pieces::{put_optional_long, put_unsigned};
-use report::{Report, ReportRefusal, read_report};
+use report::{ReportRefusal, read_entries};
 use row_types::Columns;
 use std::alloc::{AllocError, Global};
 
@@ -32,67 +32,60 @@ pub fn answer_audit<W: Sink>(alloc: Global, bytes: &[u8], out: &mut W) -> Result
 }
 
 /// The line that is printed for the bytes.
-#[tactic(auto, unfolding(crate::specs::Audit::audit_answer))]
 fn line_for(alloc: Global, bytes: &[u8]) -> Result<String, Ending>
     ensures { Gives is_memory (λ line. string_bytes line) result (audit_answer bytes.now) }
 {
-    let Report {
-        columns,
-        start,
-        entries,
-    } = read(alloc, bytes)?;
-    let state = judge(alloc, &columns, start, &entries)?;
-    match legal_text(alloc, entries.len(), &state) {
-        Ok(line) => Ok(line),
-        Err(_) => Err(Ending::Memory),
-    }
+    audit_agrees();
+    let (_, audit) = read(alloc, bytes)?;
+    judge(alloc, audit)
 }
 
-/// The report that the bytes are.
-fn read(alloc: Global, bytes: &[u8]) -> Result<Report, Ending>
-    ensures { Gives is_memory (λ report. report) result
-        (map_refusal of_report (report_of bytes.now)) }
+/// The columns of the report that the bytes are, and what the audit finds that takes its entries
+/// while they are read.
+fn read(alloc: Global, bytes: &[u8]) -> Result<(Columns, Audit), Ending>
+    ensures { Gives is_memory (λ read. read) result
+        (map_refusal of_report (map_value (taken_by audit_begun audit_more) (report_of bytes.now))) }
 {
-    match read_report(alloc, bytes) {
-        Ok(report) => Ok(report),
+    match read_entries::<Audit>(alloc, bytes) {
+        Ok(read) => Ok(read),
         Err(ReportRefusal::Line { line }) => Err(Ending::Input { line }),
         Err(ReportRefusal::Memory) => Err(Ending::Memory),
     }
 }
 
-/// The state after all entries of a history that begins with `start`. An audit refuses only the
-/// first entry that is not legal.
-fn judge(alloc: Global, columns: &Columns, start: State, entries: &Entries) -> Result<State, Ending>
-    ensures { Gives is_memory (λ state. state) result
-        (map_refusal illegal (audited start entries.now)) }
+/// The line of a legal history, or the first entry that is not legal.
+fn judge(alloc: Global, audit: Audit) -> Result<String, Ending>
+    ensures { Gives is_memory (λ line. string_bytes line) result (judged audit) }
 {
-    match audit(alloc, columns, start, entries) {
-        Ok(state) => Ok(state),
-        Err(HistoryRefusal::Illegal { entry, rule }) => Err(Ending::Illegal { entry, rule }),
+    match audit {
+        Audit::Legal { entries, tally } => legal_text(alloc, entries, &tally),
+        Audit::Illegal { entry, rule } => Err(Ending::Illegal { entry, rule }),
+    }
+}
+
+/// The line of a legal history of so many entries, which leads to a state with these numbers.
+fn legal_text(alloc: Global, entries: u64, tally: &Tally) -> Result<String, Ending>
+    ensures { Gives is_memory (λ line. string_bytes line) result
+        (Ok (tally_line entries tally.now)) }
+{
+    let mut text = String::new(alloc);
+    match put_legal_line(&mut text, entries, tally) {
+        Ok(()) => Ok(text),
         Err(_) => Err(Ending::Memory),
     }
 }
 
-/// The line of a legal history. An `Err` says that memory ran out.
-fn legal_text(alloc: Global, entries: usize, state: &State) -> Result<String, AllocError>
-    ensures { IfOk result (λ text. string_bytes text ≡ legal_line entries state.now) }
-{
-    let mut text = String::new(alloc);
-    put_legal_line(&mut text, entries, state)?;
-    Ok(text)
-}
-
 /// Puts the same line behind `out`.
-fn put_legal_line(out: &mut String, entries: usize, state: &State) -> Result<(), AllocError>
+fn put_legal_line(out: &mut String, entries: u64, tally: &Tally) -> Result<(), AllocError>
     ensures { OnOk result (string_bytes out.new
-        ≡ string_bytes out.old ++ legal_line entries state.now) }
+        ≡ string_bytes out.old ++ tally_line entries tally.now) }
 {
     out.push_str("legal ")?;
-    put_unsigned(out, entries as u64)?;
+    put_unsigned(out, entries)?;
     out.push_str(" ")?;
-    put_sum(out, state.rows.len(), state.unnamed.len())?;
+    put_sum(out, tally.rows, tally.unnamed)?;
     out.push_str(" ")?;
-    put_optional_long(out, state.next)?;
+    put_optional_long(out, tally.next)?;
     out.push_str("\n")
 }
 

@@ -37,7 +37,13 @@ rule_broken tally entry = broken_rule (blank tally) entry
 
 -- an upgrade: version 3, the next id is 0, and there are as many rows
 abbrev pub upgraded_tally : Tally → Tally
-upgraded_tally tally = record { version = 3; unnamed = tally.unnamed; rows = tally.rows; next = Some (pos 0); seq = tally.seq }
+upgraded_tally tally = record {
+  version = 3;
+  unnamed = tally.unnamed;
+  rows = tally.rows;
+  next = Some (pos 0);
+  seq = tally.seq;
+}
 
 -- version 3: every row has an id, and so has each that is appended
 abbrev pub committed_tally : Tally → Entry → Tally

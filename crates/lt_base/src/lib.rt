@@ -5,7 +5,6 @@
 #![tactic(auto)]
 
 pub use history_types::{Entries, Entry, Paths, Request, Run, Runs, State};
-pub use limits as limits;
 pub use limits::Which;
 pub use row_types::{
     Cell, CellRows, Cells, Column, Columns, ColumnsRefusal, Kind, Row, RowList, RowMap, StoredRow,

@@ -2,6 +2,8 @@ mod SchemaLemmas
 mod RowsLemmas
 mod FitsLemmas
 mod ReportLemmas
+mod TakenLemmas
+mod WholeLemmas
 mod PrintedColumns
 mod PrintedLines
 mod PrintedBytes

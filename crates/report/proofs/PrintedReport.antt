@@ -14,9 +14,9 @@ use Rattle.history_types.specs.declared.state.State.{State}
 use Rattle.row_types.specs.Columns.{IsColumns}
 use Rattle.history_types.specs.Fits.{FitsEntry}
 use Rattle.history_log.specs.Entry.{entry_text}
-use Rattle.report.specs.declared.stage.Report.{Report}
-use Rattle.report.specs.declared.stage.Stage.{Stage}
-use Rattle.report.specs.declared.stage.Stage.TheVariants.{Nothing, Schema, Body, Ended}
+use Rattle.report.specs.declared.whole.Report.{Report}
+use Rattle.report.specs.Stage.{Stage}
+use Rattle.report.specs.Stage.{Nothing, Schema, Body, Ended}
 use Rattle.report.specs.declared.refusal.LineRefusal.{LineRefusal}
 use Rattle.report.specs.declared.refusal.ReportRefusal.{ReportRefusal}
 use Rattle.report.specs.Start.{without_rows, start_of}

@@ -2,7 +2,10 @@ pub mod Refusal
 pub mod Start
 pub mod Schema
 pub mod Rows
+pub mod Stage
 pub mod Lines
 pub mod Report
+pub mod Taken
+pub mod History
 pub mod Fits
 pub mod Printed

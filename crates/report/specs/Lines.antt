@@ -8,9 +8,9 @@ use Rattle.history_types.specs.declared.entry.Entry.{Entry}
 use Rattle.history_types.specs.declared.state.State.{State}
 use Rattle.pieces.specs.Word.{is_this}
 use Rattle.history_log.specs.Entry.{entry_of}
-use Rattle.report.specs.declared.stage.Report.{Report}
-use Rattle.report.specs.declared.stage.Stage.{Stage}
-use Rattle.report.specs.declared.stage.Stage.TheVariants.{Nothing, Schema, Body, Ended}
+use Rattle.report.specs.declared.whole.Report.{Report}
+use Rattle.report.specs.Stage.{Stage}
+use Rattle.report.specs.Stage.{Nothing, Schema, Body, Ended}
 use Rattle.report.specs.declared.refusal.LineRefusal.{LineRefusal}
 use Rattle.report.specs.declared.refusal.LineRefusal.TheVariants.{Wrong}
 use Rattle.report.specs.Refusal.{of_history}

@@ -1,9 +1,9 @@
 -- A report, line by line. Each line ends with LF.
 use Rattle.std.specs.Prelude.{ℕ, ◌+◌, ◌==◌, List, [], ◌∷◌, ◌++◌, Result, Ok, Err, if◌then◌else◌}
 use Rattle.words.specs.Reading.{◌>>=◌, map_refusal}
-use Rattle.report.specs.declared.stage.Report.{Report}
-use Rattle.report.specs.declared.stage.Stage.{Stage}
-use Rattle.report.specs.declared.stage.Stage.TheVariants.{Nothing, Schema, Body, Ended}
+use Rattle.report.specs.declared.whole.Report.{Report}
+use Rattle.report.specs.Stage.{Stage}
+use Rattle.report.specs.Stage.{Nothing, Schema, Body, Ended}
 use Rattle.report.specs.declared.refusal.LineRefusal.{LineRefusal}
 use Rattle.report.specs.declared.refusal.LineRefusal.TheVariants as lines
 use Rattle.report.specs.declared.refusal.ReportRefusal.{ReportRefusal}

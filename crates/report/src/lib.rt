@@ -7,7 +7,8 @@
 //! | `start_line` | the line of the state at the start, without its rows |
 //! | `row_line` | the line of a row |
 //! | `stage` | one line behind those that were read |
-//! | `reading` | all lines of a report |
+//! | `reading` | all lines of a report, whose entries are taken one by one |
+//! | `whole` | a report with all its entries |
 //! | `printing` | reports as they are printed |
 #![tactic(auto)]
 
@@ -18,8 +19,9 @@ mod row_line;
 mod schema_line;
 mod stage;
 mod start_line;
+mod whole;
 
 pub use printing::{print_columns, print_report};
-pub use reading::read_report;
+pub use reading::read_entries;
 pub use refusal::ReportRefusal;
-pub use stage::Report;
+pub use whole::{Report, read_report};

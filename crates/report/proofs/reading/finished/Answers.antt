@@ -2,4 +2,4 @@ use Rattle.std.proofs.Common.{rules}
 use Rattle.report.proofs.reading.finished.Goals as goal
 
 pub returns-in-Ended-clause-exact : goal.returns-in-Ended-clause-exact
-returns-in-Ended-clause-exact c = search rules
+returns-in-Ended-clause-exact g c = search rules

@@ -35,5 +35,7 @@ returns-clause-exact c = rw c.from_vec.ensures (cells_end c.loop-column.cells.it
 
 pub returns-clause-fits : goal.returns-clause-fits
 returns-clause-fits c =
-    rw c.from_vec.ensures (of_read (λ (read : List Cell × ℕ). IsRow c.args.columns.now read.0) (cells_at c.args.columns.now c.args.text.now c.args.place) (c.loop-column.cells.items, c.loop-column.at) (cells_end c.loop-column.cells.items c.args.columns.now c.args.text.now c.loop-column.column-index c.loop-column.at _
-    c.loop-column-test.false c.loop-column.invariant.so_far) (cells_fit c.args.columns.now c.args.text.now c.args.place))
+    rw c.from_vec.ensures
+    (of_read (λ (read : List Cell × ℕ). IsRow c.args.columns.now read.0) (cells_at c.args.columns.now c.args.text.now c.args.place) (c.loop-column.cells.items, c.loop-column.at)
+    (cells_end c.loop-column.cells.items c.args.columns.now c.args.text.now c.loop-column.column-index c.loop-column.at _ c.loop-column-test.false c.loop-column.invariant.so_far)
+    (cells_fit c.args.columns.now c.args.text.now c.args.place))
