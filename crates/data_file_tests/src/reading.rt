@@ -27,11 +27,14 @@ const MIXED: &str =
 const WITH_LINEAGE: &str =
     r#"{"type":"record","name":"row","fields":[{"name":"_row_id","type":["null","long"],"field-id":2147483540},{"name":"n","type":"long","field-id":1},{"name":"_last_updated_sequence_number","type":["null","int"],"field-id":2147483539}]}"#;
 
+const WITH_BARE_FIELDS: &str =
+    r#"{"type":"record","name":"row","fields":[{"name":"more","type":{"type":"map","values":["null",{"type":"record","name":"inner","fields":[{"name":"a","type":"null"},{"name":"b","type":{"type":"fixed","name":"none","size":0}},{"name":"c","type":"boolean"},{"name":"d","type":{"type":"record","name":"bare","fields":[{"name":"e","type":"null"}]}}]}]},"field-id":8},{"name":"n","type":"long","field-id":1}]}"#;
+
 const TWO_ROWS: &[Told] = &[(2, &[4, 2, 4, 0, 0, 2, 97, 20, 2, 0, 2, 1, 4])];
 
 const BOTH: &[Named] = &[(1, "c1", Kind::Long, true), (2, "c2", Kind::Text, false)];
 
-static CASES: [Case; 16] = [
+static CASES: [Case; 17] = [
     // Columns are found by their ids, the first field of two; other fields are passed over.
     Case {
         schema: MIXED,
@@ -62,6 +65,19 @@ static CASES: [Case; 16] = [
                 &[CellRef::Text("a"), CellRef::Null, CellRef::Num(10)],
             ),
             (None, 7, &[CellRef::Null, CellRef::Null, CellRef::Num(-1)]),
+        ],
+        refused: None,
+    },
+    // A field that is passed over, with fields inside that take no bytes.
+    Case {
+        schema: WITH_BARE_FIELDS,
+        blocks: &[(2, &[4, 2, 107, 2, 1, 2, 108, 0, 0, 10, 0, 12])],
+        columns: &[(1, "c1", Kind::Long, true)],
+        first: Some(3),
+        told: None,
+        rows: &[
+            (Some(3), 7, &[CellRef::Num(5)]),
+            (Some(4), 7, &[CellRef::Num(6)]),
         ],
         refused: None,
     },

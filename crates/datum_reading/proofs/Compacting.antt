@@ -1,10 +1,9 @@
 -- Readers of different values that end at the same places.
-use Rattle.std.proofs.Common.{◌≡◌, ℕ, zero, suc, ◌+◌, ◌-◌, ◌<◌, ℤ, pos, negsuc, true, false, Bool, List, [], ◌∷◌, ◌++◌, length, map, take, get_or, Option, Result, Ok, Err, refl, sym, ap, subst, ◌∙◌, ◌≤◌, arith}
+use Rattle.std.proofs.Common.{◌≡◌, ℕ, zero, suc, ◌+◌, ◌-◌, ◌<◌, ℤ, pos, negsuc, true, false, Bool, List, [], ◌∷◌, ◌++◌, length, take, get_or, Option, Result, Ok, Err, refl, sym, ap, subst, ◌∙◌, ◌≤◌, arith}
 use Rattle.std.specs.Prelude.{nat_lt, if◌then◌else◌}
 use Rattle.std.proofs.lemmas.Bool.{le-ltb}
 use Rattle.std.proofs.lemmas.List.{take_more, take_all}
 use Rattle.std.proofs.lemmas.List.Elements.{all_zip_more}
-use Rattle.std.specs.List.{AllZip}
 use Rattle.words.specs.Reading.{◌>>=◌, map_value, repeated}
 use Rattle.avro_wire.specs.Number.{long}
 use Rattle.schema_tree.specs.declared.schema.Schema.{Schema}

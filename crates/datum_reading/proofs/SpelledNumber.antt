@@ -1,5 +1,5 @@
 -- Numbers, and the places of symbols and branches, agree with their spellings.
-use Rattle.std.proofs.Common.{◌≡◌, ℕ, ◌+◌, ◌<◌, List, length, true, Ok, nat_lt, inl, inr, drop, refl, sym, ap, subst}
+use Rattle.std.proofs.Common.{◌≡◌, ℕ, ◌+◌, ◌<◌, List, length, true, Ok, nat_lt, refl, sym, ap, subst}
 use Rattle.std.proofs.Common.{ltb-true, lt-ltb, arith}
 use Rattle.std.specs.Prelude.{ℤ, pos, negsuc}
 use Rattle.words.specs.Reading.{map_value, map_refusal}
@@ -11,7 +11,6 @@ use Rattle.datum_reading.specs.declared.cursor.Cursor.{Cursor}
 use Rattle.datum_reading.specs.declared.refusal.DatumRefusal.TheVariants.{Branch}
 use Rattle.datum_reading.specs.Refusal.{wire_refusal}
 use Rattle.datum_reading.specs.Reading.{moved, number_from, within, choice_at}
-use Rattle.words.specs.Parts.{Took}
 use Rattle.words.specs.Steps.{bind_ok, value_ok, map_ok, test_passed}
 use Rattle.datum_reading.specs.Agreeing.{ReadTook, Agrees, no_items, cursor_is}
 

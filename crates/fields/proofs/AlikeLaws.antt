@@ -1,8 +1,7 @@
 -- Fields that are read as others: all cells of a record, and the place behind it, are the same.
-use Rattle.std.proofs.Common.{◌≡◌, ℕ, suc, ◌+◌, List, [], ◌∷◌, ◌++◌, length, map, Result, Ok, Err, is_some, false, refl, sym, ap, ◌∙◌, subst, arith, append_assoc, length-append}
+use Rattle.std.proofs.Common.{◌≡◌, ℕ, List, [], ◌∷◌, ◌++◌, length, Result, Ok, Err, is_some, false, refl, sym, ap, ◌∙◌, subst, arith, append_assoc, length-append}
 use Rattle.std.specs.declared.option.Option.{Option}
 use Rattle.std.specs.declared.option.Option.TheVariants.{Some, None}
-use Rattle.std.specs.List.{AllZip}
 use Rattle.std.proofs.lemmas.List.{append-nil}
 use Rattle.words.specs.Reading.{◌>>=◌, map_value}
 use Rattle.row_types.specs.declared.cell.Cell.{Cell}
@@ -18,7 +17,7 @@ use Rattle.cell_reading.specs.declared.form.Form.{Form}
 use Rattle.cell_reading.specs.Form.{form_of}
 use Rattle.fields.specs.declared.leaf.Leaf.{Leaf}
 use Rattle.fields.specs.Flat.{leaf_readers}
-use Rattle.fields.specs.Record.{read_as, read_cells, field_as, fields_as, IsTypeReadAs, IsReadAs, AreReadAs, AddsReadAs}
+use Rattle.fields.specs.Record.{read_as, read_cells, field_as, fields_as, IsTypeReadAs, AreReadAs, AddsReadAs}
 
 -- ---- one type
 
