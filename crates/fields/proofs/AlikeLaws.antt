@@ -13,8 +13,8 @@ use Rattle.datum_reading.specs.declared.refusal.DatumRefusal.{DatumRefusal}
 use Rattle.datum_reading.specs.Reading.{fields_at, datum_at}
 use Rattle.datum_reading.specs.Readers.{passed}
 use Rattle.datum_reading.specs.Compact.{IsPassedAs}
-use Rattle.cell_reading.specs.declared.form.Form.{Form}
-use Rattle.cell_reading.specs.Form.{form_of}
+use Rattle.avro_cells.specs.declared.form.Form.{Form}
+use Rattle.avro_cells.specs.Form.{form_of}
 use Rattle.fields.specs.declared.leaf.Leaf.{Leaf}
 use Rattle.fields.specs.Flat.{leaf_readers}
 use Rattle.fields.specs.Record.{read_as, read_cells, field_as, fields_as, IsTypeReadAs, AreReadAs, AddsReadAs}

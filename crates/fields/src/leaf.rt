@@ -8,7 +8,7 @@ ghost use Rattle.fields.specs.Record.{IsTypeReadAs, IsReadAs, AreReadAs, AddsRea
 
 use crate::empty::is_empty;
 use crate::wanted::{Wanted, opens};
-use cell_reading::form_of;
+use avro_cells::form_of;
 use datum_reading::compacted;
 use lists::Copied;
 use schema_tree::{Field, Schema};

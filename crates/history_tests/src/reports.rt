@@ -220,9 +220,17 @@ fn is_right(alloc: Global, report: &Report, text: &str, line: &str) -> Result<bo
     is_printed_again(alloc, report, text)
 }
 
+/// The report that the text is.
+fn report_of(alloc: Global, text: &str) -> Result<Report, AllocError> {
+    match read_report(alloc, text.as_bytes()) {
+        Ok(report) => Ok(report),
+        Err(_) => Err(AllocError),
+    }
+}
+
 #[test]
 fn what_is_read_is_printed_again(rt: HostRuntime) -> Result<(), Fail> {
-    let report = read_report(rt.alloc(), WHOLE.as_bytes())?;
+    let report = report_of(rt.alloc(), WHOLE)?;
     assert!(rt; is_right(rt.alloc(), &report, WHOLE, COLUMNS_TEXT)?);
     Ok(())
 }

@@ -4,7 +4,6 @@ use avro_wire::{Bytes, Text};
 use lists::List;
 use row_types::{Cell, Cells, Column, Columns, Kind};
 use std::alloc::{AllocError, Global};
-use std::test::*;
 
 /// A column: its id, its name, its kind, and whether it is required.
 pub type ToldColumn = (i32, &'static str, Kind, bool);
@@ -35,18 +34,26 @@ static NINE: [ToldColumn; 9] = [
 ];
 
 /// The column `1:long:optional:n`.
-pub fn one_column(alloc: Global) -> Result<Columns, Fail> {
-    Ok(Columns::from_list(list_of(alloc, &ONE)?)?)
+pub fn one_column(alloc: Global) -> Result<Columns, AllocError> {
+    columns_of(list_of(alloc, &ONE)?)
 }
 
 /// The columns `10:long:required:n` and `11:string:optional:s`.
-pub fn two_columns(alloc: Global) -> Result<Columns, Fail> {
-    Ok(Columns::from_list(list_of(alloc, &TWO)?)?)
+pub fn two_columns(alloc: Global) -> Result<Columns, AllocError> {
+    columns_of(list_of(alloc, &TWO)?)
 }
 
 /// A column of each kind, which may be null.
-pub fn nine_columns(alloc: Global) -> Result<Columns, Fail> {
-    Ok(Columns::from_list(list_of(alloc, &NINE)?)?)
+pub fn nine_columns(alloc: Global) -> Result<Columns, AllocError> {
+    columns_of(list_of(alloc, &NINE)?)
+}
+
+/// The columns of a list without a fault.
+fn columns_of(list: Vec<Column>) -> Result<Columns, AllocError> {
+    match Columns::from_list(list) {
+        Ok(columns) => Ok(columns),
+        Err(_) => Err(AllocError),
+    }
 }
 
 /// The columns that the table tells.

@@ -263,12 +263,20 @@ fn are_texts_copied(alloc: Global) -> Result<bool, AllocError> {
     Ok(is_copied(alloc, &pair))
 }
 
+/// The report that the text is.
+fn report_of(alloc: Global, text: &str) -> Result<Report, AllocError> {
+    match read_report(alloc, text.as_bytes()) {
+        Ok(report) => Ok(report),
+        Err(_) => Err(AllocError),
+    }
+}
+
 #[test]
 fn a_copy_can_be_made(rt: HostRuntime) -> Result<(), Fail> {
     assert!(rt; are_rows_copied(rt.alloc()));
     assert!(rt; are_numbers_copied(rt.alloc()));
     assert!(rt; are_texts_copied(rt.alloc())?);
-    let report = read_report(rt.alloc(), EACH_KIND.as_bytes())?;
+    let report = report_of(rt.alloc(), EACH_KIND)?;
     assert!(rt; is_report_copied(rt.alloc(), &report));
     Ok(())
 }

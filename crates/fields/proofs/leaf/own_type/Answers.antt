@@ -1,6 +1,6 @@
 use Rattle.std.proofs.Common.{◌≡◌, rules}
 use Rattle.std.specs.declared.option.Option.TheVariants.{None}
-use Rattle.cell_reading.specs.Form.{form_of}
+use Rattle.avro_cells.specs.Form.{form_of}
 use Rattle.fields.proofs.AlikeLaws.{none_form, reads_passed}
 use Rattle.fields.proofs.leaf.own_type.Goals as goal
 
