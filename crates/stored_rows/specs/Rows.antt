@@ -1,6 +1,6 @@
 -- The rows of a data file, as they are read at their positions.
 -- Iceberg spec, "Row Lineage".
-use Rattle.std.specs.Prelude.{◌+◌, ℤ, List, [], ◌∷◌, Option}
+use Rattle.std.specs.Prelude.{ℕ, ◌+◌, ℤ, List, [], ◌∷◌, Option}
 use Rattle.row_types.specs.declared.row.Row.{Row}
 use Rattle.row_types.specs.declared.row.StoredRow.{StoredRow}
 use Rattle.stored_rows.specs.Row.{read_row}
