@@ -20,6 +20,7 @@ const INT_LARGEST: u64 = 4_294_967_295;
 /// `Short`: the input ends inside the number.
 /// `TooLong`: the number takes more than ten bytes, or its value doesn't fit 64 bits.
 /// Avro spec, "Binary encoding".
+#[inline(always)]
 pub fn take_long(input: &[u8], place: usize) -> Result<(i64, usize), WireRefusal>
     requires { place ≤ length input.now }
     ensures exact { Gives (λ _. false) (λ x. x) result (number_at long input.now place) }
@@ -42,6 +43,7 @@ pub fn take_long(input: &[u8], place: usize) -> Result<(i64, usize), WireRefusal
 /// `Short`: the input ends inside the number.
 /// `TooLong`: the number takes more than five bytes, or its value doesn't fit 32 bits.
 /// Avro spec, "Binary encoding".
+#[inline(always)]
 pub fn take_int(input: &[u8], place: usize) -> Result<(i32, usize), WireRefusal>
     requires { place ≤ length input.now }
     ensures exact { Gives (λ _. false) (λ x. x) result (number_at int input.now place) }
@@ -64,6 +66,7 @@ pub fn take_int(input: &[u8], place: usize) -> Result<(i32, usize), WireRefusal>
 /// `Short`: the input ends inside the length, or before the last byte that it promises.
 /// `TooLong`: the length is no number of 64 bits, or is negative.
 /// Avro spec, "Binary encoding".
+#[inline(always)]
 pub fn take_bytes(input: &[u8], place: usize) -> Result<(usize, usize), WireRefusal>
     requires { place ≤ length input.now }
     ensures exact { Gives (λ _. false) (λ x. x) result (bytes_at input.now place) }
@@ -93,6 +96,7 @@ pub fn no_prefix()
 {}
 
 /// What `take_long` answers.
+#[inline(always)]
 #[tactic(auto, unfolding(crate::specs::Reading::number_at))]
 fn long_at(input: &[u8], place: usize) -> Result<(i64, usize), WireRefusal>
     requires { place ≤ length input.now }
@@ -104,6 +108,7 @@ fn long_at(input: &[u8], place: usize) -> Result<(i64, usize), WireRefusal>
 }
 
 /// What `take_int` answers.
+#[inline(always)]
 #[tactic(auto, unfolding(crate::specs::Reading::number_at))]
 fn int_at(input: &[u8], place: usize) -> Result<(i32, usize), WireRefusal>
     requires { place ≤ length input.now }
@@ -115,6 +120,7 @@ fn int_at(input: &[u8], place: usize) -> Result<(i32, usize), WireRefusal>
 }
 
 /// What `take_bytes` answers.
+#[inline(always)]
 #[tactic(auto, unfolding(crate::specs::Reading::bytes_at))]
 fn range_at(input: &[u8], place: usize) -> Result<(usize, usize), WireRefusal>
     requires { place ≤ length input.now }
@@ -138,6 +144,7 @@ fn range_at(input: &[u8], place: usize) -> Result<(usize, usize), WireRefusal>
 }
 
 /// The number that zig-zag groups stand for.
+#[inline(always)]
 fn unzigzag(groups: u64) -> i64
     ensures { result ≡ number_of groups }
 {
@@ -157,7 +164,31 @@ fn with_group(value: u64, byte: u8, index: usize) -> u64
 }
 
 /// The value of the groups of the number at `place`, and the place after it.
+#[inline(always)]
 fn take_groups(
+    input: &[u8],
+    place: usize,
+    most: usize,
+    largest: u64,
+) -> Result<(u64, usize), WireRefusal>
+    requires start { place ≤ length input.now }
+    requires most { (0 < most) × (most ≤ 10) }
+    requires largest { 127 ≤ largest }
+    ensures exact { Gives (λ _. false) (λ x. x) result
+        (groups_at (record { bytes = most; largest = largest }) input.now place) }
+    ensures fits { IfOk result (λ taken. taken.0 ≤ largest) }
+    ensures within { IfOk result (λ taken. (place < taken.1) × (taken.1 ≤ length input.now)) }
+{
+    // Most numbers take one byte.
+    if place < input.len() && input[place] < 128 {
+        return Ok((u64::from(input[place]), place + 1));
+    }
+    take_each_group(input, place, most, largest)
+}
+
+/// The same, byte by byte.
+#[inline(never)]
+fn take_each_group(
     input: &[u8],
     place: usize,
     most: usize,
