@@ -1,14 +1,16 @@
 -- Readers that did not refuse: what their steps answered.
 use Rattle.std.proofs.Common.{◌≡◌, ℕ, ◌+◌, ◌≤◌, Bool, true, false, ◌||◌, if◌then◌else◌, nat_lt, List, Option, Some}
-use Rattle.std.proofs.Common.{None, Result, Ok, Err, refl}
+use Rattle.std.proofs.Common.{None, Result, Ok, Err, codes, refl, sym, ap, subst}
 use Rattle.std.proofs.lemmas.Bool.{ltb-false, le-ltb}
+use Rattle.words.specs.Reading.{◌>>=◌}
 use Rattle.words.specs.Steps.{ok_is}
+use Rattle.schema_tree.specs.declared.schema.Field.{Field}
 use Rattle.avro_schema.specs.declared.refusal.SchemaRefusal.{SchemaRefusal}
-use Rattle.avro_schema.specs.declared.refusal.SchemaRefusal.TheVariants.{Nesting}
+use Rattle.avro_schema.specs.declared.refusal.SchemaRefusal.TheVariants.{Form, Nesting}
 use Rattle.avro_schema.specs.Refusal.{under}
 use Rattle.avro_schema.specs.Member.{or_form}
 use Rattle.avro_schema.specs.Defined.{Definitions, Seen}
-use Rattle.avro_schema.specs.Reading.{counted}
+use Rattle.avro_schema.specs.Reading.{counted, has_field, new_field_name}
 
 -- what is read of a piece is read
 pub under_ok : {A : Type 0} (piece : List ℕ) (r : Result A SchemaRefusal) (x : A) → under piece r ≡ Ok x → r ≡ Ok x
@@ -19,6 +21,15 @@ under_ok piece (Err d) x e = absurd cc
 pub form_ok : {A : Type 0} (piece : List ℕ) (o : Option A) (x : A) → or_form piece o ≡ Ok x → o ≡ Some x
 form_ok piece (Some y) x e = cc
 form_ok piece None x e = absurd cc
+
+-- the text that is read is the name of a field, where no field before has it
+pub field_named : (read : Result (List ℕ) SchemaRefusal) (before : List Field) (text name : List ℕ)
+    → read ≡ Ok text → has_field before text ≡ false → name ≡ text → (read >>= new_field_name before) ≡ Ok name
+field_named read before text name is new same =
+    let fresh =
+    subst (λ (taken : Bool). (if taken then Err (Form (codes "name")) else Ok text) ≡ Ok name) (sym new)
+    (ap Ok (sym same)) in
+    subst (λ (r : Result (List ℕ) SchemaRefusal). (r >>= new_field_name before) ≡ Ok name) (sym is) fresh
 
 -- ---- counts
 

@@ -16,9 +16,10 @@ use crate::refusal::{SchemaRefusal, form, form_at, under};
 use crate::seen::Seen;
 use avro_wire::Text;
 use json_members::{Members, member};
-use lists::List;
+use lists::{Copied, List};
 use schema_tree::{Fields, Name, Names, Schema, full_name};
 use serde_json::Value;
+use sharing::Shared;
 use std::alloc::Global;
 
 /// The namespace that a definition names. `None`: it names none. `Some(None)`: it is no text.
@@ -65,7 +66,7 @@ pub fn name_at(
     if let Some(None) = namespace {
         return Err(form(alloc, "namespace"));
     }
-    Ok(name)
+    Ok(Shared::new(alloc, name)?)
 }
 
 /// Takes the full name of a record in the namespace `scope`: its definition begins.
@@ -80,7 +81,7 @@ pub fn begin_record(
     ensures ok { IfOk result (λ name. seen.new ≡ begun seen.old name) }
 {
     let name = name_at(alloc, members, scope, seen)?;
-    seen.begin(alloc, name.as_str())?;
+    seen.begin(alloc, name.get().as_str())?;
     Ok(name)
 }
 
@@ -94,7 +95,7 @@ fn defined_as(
     ensures exact { Gives is_memory (λ made. (made, seen.new)) result
         (whole seen.old name schema) }
 {
-    seen.define(alloc, name.as_str(), &schema)?;
+    seen.define(alloc, name.get().as_str(), &schema)?;
     Ok(schema)
 }
 
@@ -109,6 +110,7 @@ pub fn whole_record(
         (whole seen.old name (Rec name fields)) }
 {
     let key = name.copy(alloc)?;
+    let fields = Shared::new(alloc, fields)?;
     defined_as(alloc, key, Schema::Rec { name, fields }, seen)
 }
 
@@ -123,6 +125,7 @@ fn whole_enum(
         (whole seen.old name (Enum name symbols)) }
 {
     let key = name.copy(alloc)?;
+    let symbols = Shared::new(alloc, symbols)?;
     defined_as(alloc, key, Schema::Enum { name, symbols }, seen)
 }
 

@@ -42,9 +42,9 @@ fn put_schema(out: &mut Writer, schema: &Schema) -> Result<(), AllocError>
         Schema::Double => out.string("double"),
         Schema::Raw => out.string("bytes"),
         Schema::Str => out.string("string"),
-        Schema::Fixed { name, size } => put_fixed(out, name, *size),
-        Schema::Enum { name, symbols } => put_enum(out, name, symbols),
-        Schema::Rec { name, fields } => put_record(out, name, fields),
+        Schema::Fixed { name, size } => put_fixed(out, name.get(), *size),
+        Schema::Enum { name, symbols } => put_enum(out, name.get(), symbols.get()),
+        Schema::Rec { name, fields } => put_record(out, name.get(), fields.get()),
         Schema::Array {
             items,
             element_id,
@@ -118,7 +118,7 @@ fn put_field(out: &mut Writer, field: &Field) -> Result<(), AllocError>
     ensures tokens { Puts result out.old out.new (field_written field.now).tokens }
     ensures ids { OnOk result (field_has_ids field.now ≡ true) }
 {
-    begin_field(out, field.name.as_str())?;
+    begin_field(out, field.name.get().as_str())?;
     put_schema(out, &field.schema)?;
     end_field(out, begins_with_null(&field.schema), field.id)?;
     out.end_object()

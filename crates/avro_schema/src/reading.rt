@@ -22,6 +22,7 @@ use json_members::{Members, parse};
 use lists::{Distinct, List};
 use schema_tree::{Branches, Field, Fields, Name, Schema, full_name, namespace_of};
 use serde_json::Value;
+use sharing::Shared;
 use sqlite_items::Boxed;
 use std::alloc::Global;
 
@@ -91,7 +92,7 @@ fn field_name(
     if before.has(name) {
         return Err(form(alloc, "name"));
     }
-    Ok(Text::from_str(alloc, name)?)
+    Ok(Shared::new(alloc, Text::from_str(alloc, name)?)?)
 }
 
 /// The schema that the member `key` is, less deep than `room`, in the namespace `scope`.
@@ -240,7 +241,7 @@ fn record_of(
 {
     let values = list_at(alloc, members, "fields")?;
     let name = begin_record(alloc, members, scope, seen)?;
-    let inside = namespace_of(name.as_str());
+    let inside = namespace_of(name.get().as_str());
     let fields = under(
         alloc,
         "fields",

@@ -12,7 +12,6 @@ ghost use Rattle.words.specs.Reading.{Gives};
 
 use avro_wire::Text;
 use refusal_text::Told;
-use schema_tree::Name;
 use std::alloc::{AllocError, AllocFailed, Global};
 
 /// Why a text is no schema: the first cause from the top. docs/FORMATS.md, "Avro schemas".
@@ -22,9 +21,9 @@ pub enum SchemaRefusal {
     NotJson,
     /// The place has no form of a schema. `path`: the names of members and the places in lists,
     /// counted from 1, that lead to it from the top, with `/` between them.
-    Form { path: Name },
+    Form { path: Text },
     /// The name, as it is written, was not wholly defined before.
-    Unknown { name: Name },
+    Unknown { name: Text },
     /// The schema is deeper than 64, or has more than 65,536 schemas in it, once each name is
     /// replaced by what it was defined as.
     Nesting,

@@ -13,7 +13,7 @@ ghost use Rattle.words.specs.Reading.{Gives};
 use crate::refusal::SchemaRefusal;
 use avro_wire::Text;
 use lists::Copied;
-use schema_tree::{Schema, is_within, take_size, take_weight};
+use schema_tree::{Schema, is_within, take_size};
 use std::alloc::{AllocError, Global};
 use std::collections::BTreeMap;
 use std::marker::Model;
@@ -21,9 +21,9 @@ use std::marker::Model;
 /// How many schemas may stand in a schema, each name replaced by what it was defined as.
 const MOST_SCHEMAS: usize = 65_536;
 
-/// How many bytes the copies of schemas may take, for all that a text defines and uses. What would
-/// take more is answered as want of memory. docs/DECISIONS.md, "Schemas".
-const MOST_COPIED: usize = 268_435_456;
+/// How many bytes the full names of a text may have, those that it defines and those that it uses.
+/// More are answered as lack of memory. docs/DECISIONS.md, "Schemas".
+const MOST_NAMED: usize = 268_435_456;
 
 /// The full names that are taken so far, each with its schema once that is whole, and how many
 /// schemas stand in the tree so far. A name is looked up in the logarithm of their number.
@@ -31,7 +31,7 @@ const MOST_COPIED: usize = 268_435_456;
 pub struct Seen {
     names: BTreeMap<String, Option<Schema>>,
     count: usize,
-    // How many bytes are left for copies of schemas.
+    // How many bytes are left for full names.
     left: usize,
 }
 
@@ -59,7 +59,7 @@ impl Seen {
         Seen {
             names: BTreeMap::new(alloc),
             count: 0,
-            left: MOST_COPIED,
+            left: MOST_NAMED,
         }
     }
 
@@ -89,7 +89,7 @@ impl Seen {
     pub fn define(&mut self, alloc: Global, name: &str, schema: &Schema) -> Result<(), AllocError>
         ensures ok { OnOk result (self.new ≡ defined self.old name.now schema.now) }
     {
-        let Some(left) = take_weight(schema, self.left) else {
+        let Some(left) = self.left.checked_sub(name.len()) else {
             return Err(AllocError);
         };
         let copy = schema.copy(alloc)?;
@@ -134,9 +134,8 @@ impl Seen {
                 name: Text::from_str(alloc, word)?,
             });
         };
-        // What is too much isn't copied.
         let count = count_use(self.count, room, schema)?;
-        let Some(left) = take_weight(schema, self.left) else {
+        let Some(left) = self.left.checked_sub(name.len()) else {
             return Err(SchemaRefusal::Memory);
         };
         let copy = schema.copy(alloc)?;

@@ -242,7 +242,7 @@ fn schema_of(alloc: Global, text: &[u8]) -> Option<Schema> {
 /// Whether there is a field, and it has the name and the id.
 fn is_field(field: Option<&Field>, wanted: (&str, i32)) -> bool {
     match field {
-        Some(field) => field.name.as_str() == wanted.0 && field.id == Some(wanted.1),
+        Some(field) => field.name.get().as_str() == wanted.0 && field.id == Some(wanted.1),
         None => false,
     }
 }
@@ -260,7 +260,7 @@ fn are_fields(fields: &[Field], wanted: &[(&str, i32)]) -> bool {
 /// Whether it is a record of such fields.
 fn has_fields(schema: &Schema, wanted: &[(&str, i32)]) -> bool {
     match schema {
-        Schema::Rec { fields, .. } => are_fields(fields.as_slice(), wanted),
+        Schema::Rec { fields, .. } => are_fields(fields.get().as_slice(), wanted),
         _ => false,
     }
 }

@@ -7,6 +7,7 @@ ghost use Rattle.datum_reading.specs.Compact.{IsPassedAs, ArePassedAs, TakesNoth
 
 use lists::{Copied, List};
 use schema_tree::{Branches, Field, Fields, Name, Schema};
+use sharing::Shared;
 use sqlite_items::Boxed;
 use std::alloc::{AllocError, Global};
 
@@ -24,7 +25,7 @@ fn compact_schema(alloc: Global, schema: &Schema) -> Result<Schema, AllocError>
     ensures { IfOk result (λ compact. IsPassedAs compact schema.now) }
 {
     match schema {
-        Schema::Rec { name, fields } => compact_record(alloc, name, fields),
+        Schema::Rec { name, fields } => compact_record(alloc, name, fields.get()),
         Schema::Array {
             items,
             element_id,
@@ -47,7 +48,7 @@ fn compact_record(alloc: Global, name: &Name, fields: &Fields) -> Result<Schema,
     let fields = compact_fields(alloc, fields)?;
     Ok(Schema::Rec {
         name: name.copy(alloc)?,
-        fields,
+        fields: Shared::new(alloc, fields)?,
     })
 }
 
@@ -141,7 +142,7 @@ fn takes_nothing(schema: &Schema) -> bool
     match schema {
         Schema::Null => true,
         Schema::Fixed { size, .. } => *size == 0,
-        Schema::Rec { fields, .. } => fields.is_empty(),
+        Schema::Rec { fields, .. } => fields.get().is_empty(),
         _ => false,
     }
 }

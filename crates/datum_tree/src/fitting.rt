@@ -50,14 +50,14 @@ fn fits_value(schema: &Schema, datum: &Datum) -> bool
         Schema::Boolean => is_flag(datum),
         Schema::Int(_) => is_int(datum),
         Schema::Long(_) => is_long(datum),
-        Schema::Enum { symbols, .. } => is_symbol(datum, symbols.len()),
+        Schema::Enum { symbols, .. } => is_symbol(datum, symbols.get().len()),
         Schema::Float => is_sized(datum, 4),
         Schema::Double => is_sized(datum, 8),
         Schema::Fixed { size, .. } => is_sized(datum, *size as usize),
         Schema::Raw => is_raw(datum),
         Schema::Str => is_text(datum),
         Schema::Rec { fields, .. } => match fields_of(datum) {
-            Some(values) => fits_fields(fields.as_slice(), values),
+            Some(values) => fits_fields(fields.get().as_slice(), values),
             None => false,
         },
         Schema::Array { items, .. } => match array_of(datum) {

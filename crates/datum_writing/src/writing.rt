@@ -57,7 +57,7 @@ fn put_value(schema: &Schema, datum: &Datum, out: &mut Vec<u8>) -> Result<(), Al
         Schema::Raw => put_sized(datum, out),
         Schema::Str => put_text(datum, out),
         Schema::Rec { fields, .. } => match fields_of(datum) {
-            Some(values) => put_fields(fields.as_slice(), values, out),
+            Some(values) => put_fields(fields.get().as_slice(), values, out),
             None => Ok(()),
         },
         Schema::Array { items, .. } => match array_of(datum) {

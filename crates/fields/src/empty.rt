@@ -14,7 +14,7 @@ pub fn is_empty(schema: &Schema) -> bool
     match schema {
         Schema::Null => true,
         Schema::Fixed { size, .. } => *size == 0,
-        Schema::Rec { fields, .. } => are_empty(fields),
+        Schema::Rec { fields, .. } => are_empty(fields.get()),
         _ => false,
     }
 }

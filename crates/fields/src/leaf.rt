@@ -70,7 +70,7 @@ fn push_opened<'s>(all: &mut Vec<LentLeaf<'s>>, field: &'s Field) -> Result<(), 
         ≡ map leaf_of all.old.items ++ leaves_if true field.now) }
 {
     match &field.schema {
-        Schema::Rec { fields, .. } => push_inner(all, field.id, fields.as_slice()),
+        Schema::Rec { fields, .. } => push_inner(all, field.id, fields.get().as_slice()),
         _ => push_leaf(all, field),
     }
 }

@@ -28,7 +28,7 @@ pub fn fields_of(schema: &Schema) -> &[Field]
     ensures { result.now ≡ fields_of schema.now }
 {
     match schema {
-        Schema::Rec { fields, .. } => fields.as_slice(),
+        Schema::Rec { fields, .. } => fields.get().as_slice(),
         _ => &[],
     }
 }

@@ -98,7 +98,7 @@ fn column_of(alloc: Global, id: i32, field: &Field) -> Result<Column, RowRefusal
     };
     Ok(Column {
         id,
-        name: field.name.copy(alloc)?,
+        name: field.name.get().copy(alloc)?,
         kind,
         required: !found.has_null,
     })

@@ -12,6 +12,7 @@ use avro_wire::Text;
 use lists::{Copied, List};
 use row_types::Column;
 use schema_tree::{Field, Logical, Schema};
+use sharing::Shared;
 use std::alloc::{AllocError, Global};
 use stored_rows::{LAST_UPDATED_FIELD, ROW_ID_FIELD};
 
@@ -30,9 +31,10 @@ pub fn file_schema(alloc: Global, columns: &[Column], lineage: bool) -> Result<S
     if lineage {
         push_lineage(alloc, &mut fields)?;
     }
+    let name = Shared::new(alloc, Text::from_str(alloc, "row")?)?;
     Ok(Schema::Rec {
-        name: Text::from_str(alloc, "row")?,
-        fields: List::from_vec(fields),
+        name,
+        fields: Shared::new(alloc, List::from_vec(fields))?,
     })
 }
 
@@ -54,8 +56,9 @@ fn column_field(alloc: Global, plain: bool, column: &Column) -> Result<Field, Al
     ensures { IfOk result (λ field. field ≡ field_of_column plain column.now) }
 {
     let schema = column_type(alloc, column)?;
+    let name = field_name(alloc, plain, column)?;
     Ok(Field {
-        name: field_name(alloc, plain, column)?,
+        name: Shared::new(alloc, name)?,
         id: Some(column.id),
         schema,
     })
@@ -99,8 +102,9 @@ fn lineage_field(alloc: Global, name: &str, id: i32) -> Result<Field, AllocError
         field ≡ field_with name.now id (type_beside_null (type_of Long))) }
 {
     let schema = optional_type(alloc, Schema::Long(Logical::Plain))?;
+    let name = Text::from_str(alloc, name)?;
     Ok(Field {
-        name: Text::from_str(alloc, name)?,
+        name: Shared::new(alloc, name)?,
         id: Some(id),
         schema,
     })

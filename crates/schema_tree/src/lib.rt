@@ -6,17 +6,14 @@
 //! | `logical` | what a number stands for, and the attributes that say it |
 //! | `name` | full names and namespaces |
 //! | `measure` | how deep and how large a schema is, as far as a limit asks |
-//! | `weight` | how much memory the copies of schemas take |
 #![tactic(auto)]
 
 mod logical;
 mod measure;
 mod name;
 mod schema;
-mod weight;
 
 pub use logical::{Attributes, Logical};
 pub use measure::{is_within, take_size};
 pub use name::{full_name, namespace_of};
 pub use schema::{Branches, Field, Fields, Name, Names, Schema};
-pub use weight::take_weight;

@@ -26,7 +26,7 @@ pub fn is_within(schema: &Schema, room: usize) -> bool
         | Schema::Str
         | Schema::Fixed { .. }
         | Schema::Enum { .. } => true,
-        Schema::Rec { fields, .. } => are_fields_within(fields, room - 1),
+        Schema::Rec { fields, .. } => are_fields_within(fields.get(), room - 1),
         Schema::Array { items, .. } => is_within(items.get(), room - 1),
         Schema::Map { values, .. } => is_within(values.get(), room - 1),
         Schema::Union(branches) => are_branches_within(branches, room - 1),
@@ -77,7 +77,7 @@ pub fn take_size(schema: &Schema, left: usize) -> Option<usize>
         | Schema::Str
         | Schema::Fixed { .. }
         | Schema::Enum { .. } => Some(left - 1),
-        Schema::Rec { fields, .. } => take_fields(fields, left - 1),
+        Schema::Rec { fields, .. } => take_fields(fields.get(), left - 1),
         Schema::Array { items, .. } => take_size(items.get(), left - 1),
         Schema::Map { values, .. } => take_size(values.get(), left - 1),
         Schema::Union(branches) => take_branches(branches, left - 1),

@@ -7,13 +7,14 @@ ghost use Rattle.schema_tree.specs.declared.schema.Schema.TheVariants.{Enum, Fix
 use crate::logical::Logical;
 use avro_wire::Text;
 use lists::{Copied, Keyed, List};
+use sharing::Shared;
 use sqlite_items::Boxed;
 use std::alloc::{AllocError, Global};
 
-/// A name.
-pub type Name = Text;
-/// Names.
-pub type Names = List<Name>;
+/// A name. Its copies share its bytes.
+pub type Name = Shared<Text>;
+/// Names that stand in one list.
+pub type Names = List<Text>;
 /// Fields.
 pub type Fields = List<Field>;
 /// Branches.
@@ -31,7 +32,9 @@ pub struct Field {
     pub schema: Schema,
 }
 
-/// A schema. A name that was used stands here as the schema that it was defined as.
+/// A schema. A name that was used stands here as the schema that it was defined as, of which it
+/// shares the name, the symbols and the fields. So a copy of a fixed, an enum or a record takes no
+/// memory.
 #[cycle(schema)]
 #[derive(Drop)]
 pub enum Schema {
@@ -59,12 +62,12 @@ pub enum Schema {
     /// One of the symbols. `name`: the full name.
     Enum {
         name: Name,
-        symbols: Names,
+        symbols: Shared<Names>,
     },
     /// A value of each field, in their order. `name`: the full name.
     Rec {
         name: Name,
-        fields: Fields,
+        fields: Shared<Fields>,
     },
     /// Any number of items. `element_id`: their id in a table; `None`: they have no id.
     /// `keyed`: it stands for a map, and its items are the map's pairs.
@@ -89,7 +92,7 @@ impl Keyed for Field {
     ghost key = { λ field. (out-Field field).name };
 
     fn key(&self) -> &str {
-        self.name.as_str()
+        self.name.get().as_str()
     }
 }
 
@@ -105,7 +108,6 @@ impl Copied for Schema {
     }
 }
 
-#[cycle(copy)]
 fn copy_field(alloc: Global, field: &Field) -> Result<Field, AllocError>
     ensures { IfOk result (λ copy. copy ≡ field.now) }
 {
@@ -115,17 +117,6 @@ fn copy_field(alloc: Global, field: &Field) -> Result<Field, AllocError>
         id: field.id,
         schema,
     })
-}
-
-#[cycle(copy)]
-fn copy_fields(alloc: Global, fields: &Fields) -> Result<Fields, AllocError>
-    ensures { IfOk result (λ copy. copy ≡ fields.now) }
-{
-    let mut copies = Vec::with_capacity(alloc, fields.len())?;
-    for field in fields.as_slice() {
-        copies.push(copy_field(alloc, field)?)?;
-    }
-    Ok(List::from_vec(copies))
 }
 
 #[cycle(copy)]
@@ -185,17 +176,6 @@ fn copy_schema(alloc: Global, schema: &Schema) -> Result<Schema, AllocError>
     }
 }
 
-#[cycle(copy)]
-fn copy_record(alloc: Global, name: &Name, fields: &Fields) -> Result<Schema, AllocError>
-    ensures { IfOk result (λ copy. copy ≡ Rec name.now fields.now) }
-{
-    let fields = copy_fields(alloc, fields)?;
-    Ok(Schema::Rec {
-        name: name.copy(alloc)?,
-        fields,
-    })
-}
-
 fn copy_fixed(alloc: Global, name: &Name, size: u32) -> Result<Schema, AllocError>
     ensures { IfOk result (λ copy. copy ≡ Fixed name.now size) }
 {
@@ -205,12 +185,20 @@ fn copy_fixed(alloc: Global, name: &Name, size: u32) -> Result<Schema, AllocErro
     })
 }
 
-fn copy_enum(alloc: Global, name: &Name, symbols: &Names) -> Result<Schema, AllocError>
+fn copy_enum(alloc: Global, name: &Name, symbols: &Shared<Names>) -> Result<Schema, AllocError>
     ensures { IfOk result (λ copy. copy ≡ Enum name.now symbols.now) }
 {
-    let symbols = symbols.copy(alloc)?;
     Ok(Schema::Enum {
         name: name.copy(alloc)?,
-        symbols,
+        symbols: symbols.copy(alloc)?,
+    })
+}
+
+fn copy_record(alloc: Global, name: &Name, fields: &Shared<Fields>) -> Result<Schema, AllocError>
+    ensures { IfOk result (λ copy. copy ≡ Rec name.now fields.now) }
+{
+    Ok(Schema::Rec {
+        name: name.copy(alloc)?,
+        fields: fields.copy(alloc)?,
     })
 }

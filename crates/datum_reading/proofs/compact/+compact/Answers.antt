@@ -1,12 +1,15 @@
-use Rattle.std.proofs.Common.{sym, subst}
+use Rattle.std.proofs.Common.{List, sym, subst}
+use Rattle.schema_tree.specs.declared.schema.Field.{Field}
 use Rattle.schema_tree.specs.declared.schema.Schema.{Schema}
-use Rattle.schema_tree.specs.declared.schema.Schema.TheVariants.{Array, Map}
+use Rattle.schema_tree.specs.declared.schema.Schema.TheVariants.{Rec, Array, Map}
 use Rattle.datum_reading.specs.Compact.{IsPassedAs}
 use Rattle.datum_reading.proofs.Compacting.{rec_same, array_same, map_same, fields_next, union_next, union_done}
 use Rattle.datum_reading.proofs.compact.+compact.Goals as goal
 
 pub compact_record-returns : goal.compact_record-returns
-compact_record-returns t c = rec_same c.in_ok-copy.field-0 c.args.name.now c.in_ok-fields.fields c.args.fields.now c.in_ok-fields.ensures
+compact_record-returns t c =
+    let same = rec_same c.in_ok-copy.field-0 c.args.name.now c.in_ok-fields.fields c.args.fields.now c.in_ok-fields.ensures in
+    subst (λ (fields : List Field). IsPassedAs (Rec c.in_ok-copy.field-0 fields) (Rec c.args.name.now c.args.fields.now)) (sym c.in_ok-new.ensures) same
 
 pub compact_array-returns : goal.compact_array-returns
 compact_array-returns t c =

@@ -121,11 +121,11 @@ put_value-returns-in-Str-clause-spelled t c = always_ok c.put_text.result _ (of_
 
 pub put_value-returns-in-Some-clause-spelled : goal.put_value-returns-in-Some-clause-spelled
 put_value-returns-in-Some-clause-spelled t c =
-    on_ok c.put_fields.result _ _ (record_at c.args.schema.now c.in-Rec.name c.in-Rec.fields c.as_slice.result.now c.args.datum.now c.in-Some.values.now c.in-Rec.is c.as_slice.ensures c.in-Some.ensures) c.put_fields.ensures.spelled
+    on_ok c.put_fields.result _ _ (record_at c.args.schema.now c.in-Rec.name c.in-Rec.fields c.as_slice.result.now c.args.datum.now c.in-Some.values.now c.in-Rec.is (c.as_slice.ensures ∙ c.get.ensures) c.in-Some.ensures) c.put_fields.ensures.spelled
 
 pub put_value-returns-in-Some-array_of-clause-spelled : goal.put_value-returns-in-Some-array_of-clause-spelled
 put_value-returns-in-Some-array_of-clause-spelled t c =
-    on_ok c.put_array.result _ _ (array_at c.args.schema.now c.in-Array.items c.get.result.now c.in-Array.element_id c.in-Array.keyed c.args.datum.now c.in-Some-array_of.values.now c.in-Array.is c.get.ensures c.in-Some-array_of.ensures) c.put_array.ensures.spelled
+    on_ok c.put_array.result _ _ (array_at c.args.schema.now c.in-Array.items c.get-in-Some-array_of.result.now c.in-Array.element_id c.in-Array.keyed c.args.datum.now c.in-Some-array_of.values.now c.in-Array.is c.get-in-Some-array_of.ensures c.in-Some-array_of.ensures) c.put_array.ensures.spelled
 
 pub put_value-returns-in-Some-pairs_of-clause-spelled : goal.put_value-returns-in-Some-pairs_of-clause-spelled
 put_value-returns-in-Some-pairs_of-clause-spelled t c =

@@ -3,6 +3,3 @@ use Rattle.schema_tree.proofs.schema.+copy.Given as goal
 
 abbrev pub invariant-copy_branches-loop-branch : goal.invariant-copy_branches-loop-branch
 invariant-copy_branches-loop-branch l = l.copies.items ≡ take l.branch-index l.branch-items
-
-abbrev pub invariant-copy_fields-loop-field : goal.invariant-copy_fields-loop-field
-invariant-copy_fields-loop-field l = l.copies.items ≡ take l.field-index l.field-items
