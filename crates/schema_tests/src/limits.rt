@@ -31,6 +31,10 @@ const WIDE: &str = r#"{"type":"record","name":"f","fields":[{"name":"y","type":"
 /// An enum `f` up to its first symbol, which has no byte.
 const ENUM: &str = r#"{"type":"enum","name":"f","symbols":[""#;
 
+/// A record `f` up to the name of the record in its first field.
+const OUTER: &str =
+    r#"{"type":"record","name":"f","fields":[{"name":"e","type":{"type":"record","name":""#;
+
 /// A schema is at most 64 deep.
 static DEPTHS: [Limit; 5] = [
     Limit {
@@ -111,15 +115,16 @@ static NUMBERS: [Limit; 3] = [
     },
 ];
 
-/// Copies that take too much are want of memory: `f` has 10,000 symbols.
-static WEIGHTS: [Limit; 2] = [
+/// A use of a name takes no memory: the enum `f` has 10,000 symbols; the record `f` has a record
+/// whose name has 50,000 bytes, and so has the name of its field.
+static USES: [Limit; 2] = [
     Limit {
         pieces: &[
             Piece::Times(1, RECORD),
             Piece::Times(1, ENUM),
             Piece::Times(9_999, r#"",""#),
             Piece::Times(1, r#""]}}"#),
-            Piece::Numbered(100, r#",{"name":"x"#, r#"","type":"f"}"#),
+            Piece::Numbered(5_000, r#",{"name":"x"#, r#"","type":"f"}"#),
             Piece::Times(1, "]}"),
         ],
         cause: "",
@@ -127,13 +132,15 @@ static WEIGHTS: [Limit; 2] = [
     Limit {
         pieces: &[
             Piece::Times(1, RECORD),
-            Piece::Times(1, ENUM),
-            Piece::Times(9_999, r#"",""#),
-            Piece::Times(1, r#""]}}"#),
-            Piece::Numbered(500, r#",{"name":"x"#, r#"","type":"f"}"#),
+            Piece::Times(1, OUTER),
+            Piece::Times(5_000, "long_name_"),
+            Piece::Times(1, r#"","fields":[{"name":""#),
+            Piece::Times(5_000, "long_name_"),
+            Piece::Times(1, r#"","type":"int"}]}}]}}"#),
+            Piece::Numbered(5_000, r#",{"name":"x"#, r#"","type":"f"}"#),
             Piece::Times(1, "]}"),
         ],
-        cause: "Memory",
+        cause: "",
     },
 ];
 
@@ -210,6 +217,6 @@ fn a_schema_has_65536_schemas_at_most(rt: HostRuntime) {
 }
 
 #[test]
-fn copies_that_take_too_much_are_want_of_memory(rt: HostRuntime) {
-    all_made(&rt, first_wrong(rt.alloc(), &WEIGHTS));
+fn a_use_of_a_name_takes_no_memory(rt: HostRuntime) {
+    all_made(&rt, first_wrong(rt.alloc(), &USES));
 }
