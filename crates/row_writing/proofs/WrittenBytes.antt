@@ -35,7 +35,7 @@ use Rattle.datum_writing.specs.Spelled.{IsSized, IsSizedText}
 use Rattle.stored_rows.specs.Field.{row_id_field, last_updated_field}
 use Rattle.avro_cells.specs.Kind.{written_type, optional_type}
 use Rattle.avro_cells.specs.KindLaws.{written_level, rolls_written, is_cell_level, level_written}
-use Rattle.avro_cells.specs.ValueLaws.{long_number_fits, written_number_fits, written_flag_fits, written_text_fits}
+use Rattle.avro_cells.specs.ValueLaws.{written_number_fits, written_flag_fits, written_text_fits}
 use Rattle.avro_cells.specs.ValueLaws.{written_bytes_fit}
 use Rattle.row_writing.specs.Writing.{row_id_name, last_updated_name, field_of, kept}
 use Rattle.row_writing.specs.Writing.{file_schema, column_field, lineage_fields, are_plain_names, cell_datum}
@@ -64,11 +64,13 @@ bytes_made schema level made datum inside is bytes text spelled = record {
   spelled = subst (λ (s : Schema). Spells s datum bytes) made (subst (λ (S : Spelling). S datum bytes) (sym (spells_layer level)) spelled);
 }
 
+-- the tests of a level
+abbrev tests : Schema-F Schema Field → Schema-F Test Test
+tests level = map-Schema Schema Field Test Test fits_schema field_fits level
+
 -- what fits a schema fits its level
-level_fits : (schema : Schema) (level : Schema-F Schema Field) → roll-Schema level ≡ schema → (datum : Datum) (inside : Level) → out-Datum datum ≡ inside → fits_schema schema datum ≡ true
-    → fits_level (map-Schema Schema Field Test Test fits_schema field_fits level) inside ≡ true
-level_fits schema level made datum inside is fit =
-    sym (ap (fits_level (map-Schema Schema Field Test Test fits_schema field_fits level)) is) ∙ (sym (fits_rolled level datum) ∙ (ap (λ (s : Schema). fits_schema s datum) made ∙ fit))
+level_fits : (schema : Schema) (level : Schema-F Schema Field) → roll-Schema level ≡ schema → (datum : Datum) (inside : Level) → out-Datum datum ≡ inside → fits_schema schema datum ≡ true → fits_level (tests level) inside ≡ true
+level_fits schema level made datum inside is fit = sym (ap (fits_level (tests level)) is) ∙ (sym (fits_rolled level datum) ∙ (ap (λ (s : Schema). fits_schema s datum) made ∙ fit))
 
 -- ---- numbers
 
@@ -89,54 +91,40 @@ long_number (negsuc n) fit =
 -- ---- cells of a type of cells
 
 -- a number, in a type of numbers
-number_in : (schema : Schema) (level : Schema-F Schema Field) → roll-Schema level ≡ schema → is_cell_level level ≡ true → (number : ℤ) → fits_schema schema (datums.Num number) ≡ true
-    → AreBytes schema (datums.Num number) (number_text number)
-number_in schema level made holds number fit = by_level level made holds (level_fits schema level made (datums.Num number) (values.Num number) (datums.outs-Num number) fit)
-  where
-    by_level : (level : Schema-F Schema Field) → roll-Schema level ≡ schema → is_cell_level level ≡ true → fits_level (map-Schema Schema Field Test Test fits_schema field_fits level) (values.Num number) ≡ true
-        → AreBytes schema (datums.Num number) (number_text number)
-    by_level (layers.Int logical) made holds fit =
-        bytes_made schema (layers.Int logical) made (datums.Num number) (values.Num number) (datums.outs-Num number) (number_text number) refl
-        (record { number = number; value = refl; spelled = int_number number fit })
-    by_level (layers.Long logical) made holds fit =
-        bytes_made schema (layers.Long logical) made (datums.Num number) (values.Num number) (datums.outs-Num number) (number_text number) refl
-        (record { number = number; value = refl; spelled = long_number number fit })
-    by_level (layers.Enum name symbols) made holds fit = absurd (false≢true holds)
-    by_level _ made holds fit = absurd (false≢true fit)
+number_in : (schema : Schema) (level : Schema-F Schema Field) → roll-Schema level ≡ schema → is_cell_level level ≡ true → (number : ℤ) → fits_level (tests level) (values.Num number) ≡ true → AreBytes schema (datums.Num number) (number_text number)
+number_in schema (layers.Int logical) made holds number fit =
+    bytes_made schema (layers.Int logical) made (datums.Num number) (values.Num number) (datums.outs-Num number) (number_text number) refl
+    (record { number = number; value = refl; spelled = int_number number fit })
+number_in schema (layers.Long logical) made holds number fit =
+    bytes_made schema (layers.Long logical) made (datums.Num number) (values.Num number) (datums.outs-Num number) (number_text number) refl
+    (record { number = number; value = refl; spelled = long_number number fit })
+number_in schema (layers.Enum name symbols) made holds number fit = absurd (false≢true holds)
+number_in schema _ made holds number fit = absurd (false≢true fit)
 
 -- a boolean, in the type of booleans
-flag_in : (schema : Schema) (level : Schema-F Schema Field) → roll-Schema level ≡ schema → (flag : Bool) → fits_schema schema (datums.Flag flag) ≡ true → AreBytes schema (datums.Flag flag) (flag_byte flag ∷ [])
-flag_in schema level made flag fit = by_level level made (level_fits schema level made (datums.Flag flag) (values.Flag flag) (datums.outs-Flag flag) fit)
-  where
-    by_level : (level : Schema-F Schema Field) → roll-Schema level ≡ schema → fits_level (map-Schema Schema Field Test Test fits_schema field_fits level) (values.Flag flag) ≡ true → AreBytes schema (datums.Flag flag) (flag_byte flag ∷ [])
-    by_level layers.Boolean made fit =
-        bytes_made schema layers.Boolean made (datums.Flag flag) (values.Flag flag) (datums.outs-Flag flag) (flag_byte flag ∷ []) refl (record { flag = flag; value = refl; spelled = refl })
-    by_level _ made fit = absurd (false≢true fit)
+flag_in : (schema : Schema) (level : Schema-F Schema Field) → roll-Schema level ≡ schema → (flag : Bool) → fits_level (tests level) (values.Flag flag) ≡ true → AreBytes schema (datums.Flag flag) (flag_byte flag ∷ [])
+flag_in schema layers.Boolean made flag fit =
+    bytes_made schema layers.Boolean made (datums.Flag flag) (values.Flag flag) (datums.outs-Flag flag) (flag_byte flag ∷ []) refl
+    (record { flag = flag; value = refl; spelled = refl })
+flag_in schema _ made flag fit = absurd (false≢true fit)
 
 -- a text, in the type of texts
-text_in : (schema : Schema) (level : Schema-F Schema Field) → roll-Schema level ≡ schema → (text : List ℕ) → fits_schema schema (datums.Str text) ≡ true → IsSizedText text → AreBytes schema (datums.Str text) (bytes_text text)
-text_in schema level made text fit sized = by_level level made (level_fits schema level made (datums.Str text) (values.Str text) (datums.outs-Str text) fit)
-  where
-    by_level : (level : Schema-F Schema Field) → roll-Schema level ≡ schema → fits_level (map-Schema Schema Field Test Test fits_schema field_fits level) (values.Str text) ≡ true → AreBytes schema (datums.Str text) (bytes_text text)
-    by_level layers.Str made fit =
-        bytes_made schema layers.Str made (datums.Str text) (values.Str text) (datums.outs-Str text) (bytes_text text) refl
-        (record { text = text; value = refl; spelled = record { is_text = sized.1; spelled = bytes_spelled text sized.0 } })
-    by_level _ made fit = absurd (false≢true fit)
+text_in : (schema : Schema) (level : Schema-F Schema Field) → roll-Schema level ≡ schema → (text : List ℕ) → fits_level (tests level) (values.Str text) ≡ true → IsSizedText text → AreBytes schema (datums.Str text) (bytes_text text)
+text_in schema layers.Str made text fit sized =
+    bytes_made schema layers.Str made (datums.Str text) (values.Str text) (datums.outs-Str text) (bytes_text text) refl
+    (record { text = text; value = refl; spelled = record { is_text = sized.1; spelled = bytes_spelled text sized.0 } })
+text_in schema _ made text fit sized = absurd (false≢true fit)
 
 -- bytes, in the type of bytes: a type of cells has no bytes without their length
-raw_in : (schema : Schema) (level : Schema-F Schema Field) → roll-Schema level ≡ schema → is_cell_level level ≡ true → (bytes : List ℕ) → fits_schema schema (datums.Raw bytes) ≡ true → IsSized bytes
+raw_in : (schema : Schema) (level : Schema-F Schema Field) → roll-Schema level ≡ schema → is_cell_level level ≡ true → (bytes : List ℕ) → fits_level (tests level) (values.Raw bytes) ≡ true → IsSized bytes
     → AreBytes schema (datums.Raw bytes) (bytes_text bytes)
-raw_in schema level made holds bytes fit sized = by_level level made holds (level_fits schema level made (datums.Raw bytes) (values.Raw bytes) (datums.outs-Raw bytes) fit)
-  where
-    by_level : (level : Schema-F Schema Field) → roll-Schema level ≡ schema → is_cell_level level ≡ true → fits_level (map-Schema Schema Field Test Test fits_schema field_fits level) (values.Raw bytes) ≡ true
-        → AreBytes schema (datums.Raw bytes) (bytes_text bytes)
-    by_level layers.Raw made holds fit =
-        bytes_made schema layers.Raw made (datums.Raw bytes) (values.Raw bytes) (datums.outs-Raw bytes) (bytes_text bytes) refl
-        (record { inside = bytes; value = refl; spelled = bytes_spelled bytes sized })
-    by_level layers.Float made holds fit = absurd (false≢true holds)
-    by_level layers.Double made holds fit = absurd (false≢true holds)
-    by_level (layers.Fixed name size) made holds fit = absurd (false≢true holds)
-    by_level _ made holds fit = absurd (false≢true fit)
+raw_in schema layers.Raw made holds bytes fit sized =
+    bytes_made schema layers.Raw made (datums.Raw bytes) (values.Raw bytes) (datums.outs-Raw bytes) (bytes_text bytes) refl
+    (record { inside = bytes; value = refl; spelled = bytes_spelled bytes sized })
+raw_in schema layers.Float made holds bytes fit sized = absurd (false≢true holds)
+raw_in schema layers.Double made holds bytes fit sized = absurd (false≢true holds)
+raw_in schema (layers.Fixed name size) made holds bytes fit sized = absurd (false≢true holds)
+raw_in schema _ made holds bytes fit sized = absurd (false≢true fit)
 
 -- ---- cells of a kind
 
@@ -145,17 +133,25 @@ module _ (kind : Kind) where
   cells_type : is_cell_level (written_level kind) ≡ true
   cells_type = (level_written kind (written_type kind)).cells
 
+  -- what fits its type fits the level of that
+  type_fits : (datum : Datum) (inside : Level) → out-Datum datum ≡ inside → fits_schema (written_type kind) datum ≡ true → fits_level (tests (written_level kind)) inside ≡ true
+  type_fits datum inside is fit = level_fits (written_type kind) (written_level kind) (rolls_written kind) datum inside is fit
+
   flag_cell : (flag : Bool) → has_flags kind ≡ true → AreBytes (written_type kind) (datums.Flag flag) (flag_byte flag ∷ [])
-  flag_cell flag fit = flag_in (written_type kind) (written_level kind) (rolls_written kind) flag (written_flag_fits kind flag fit)
+  flag_cell flag fit =
+      flag_in (written_type kind) (written_level kind) (rolls_written kind) flag (type_fits (datums.Flag flag) (values.Flag flag) (datums.outs-Flag flag) (written_flag_fits kind flag fit))
 
   number_cell : (number : ℤ) → has_number kind number ≡ true → AreBytes (written_type kind) (datums.Num number) (number_text number)
-  number_cell number fit = number_in (written_type kind) (written_level kind) (rolls_written kind) cells_type number (written_number_fits kind number fit)
+  number_cell number fit =
+      number_in (written_type kind) (written_level kind) (rolls_written kind) cells_type number (type_fits (datums.Num number) (values.Num number) (datums.outs-Num number) (written_number_fits kind number fit))
 
   text_cell : (text : List ℕ) → has_texts kind ≡ true → IsSizedText text → AreBytes (written_type kind) (datums.Str text) (bytes_text text)
-  text_cell text fit sized = text_in (written_type kind) (written_level kind) (rolls_written kind) text (written_text_fits kind text fit) sized
+  text_cell text fit sized =
+      text_in (written_type kind) (written_level kind) (rolls_written kind) text (type_fits (datums.Str text) (values.Str text) (datums.outs-Str text) (written_text_fits kind text fit)) sized
 
   bytes_cell : (bytes : List ℕ) → has_bytes kind ≡ true → IsSized bytes → AreBytes (written_type kind) (datums.Raw bytes) (bytes_text bytes)
-  bytes_cell bytes fit sized = raw_in (written_type kind) (written_level kind) (rolls_written kind) cells_type bytes (written_bytes_fit kind bytes fit) sized
+  bytes_cell bytes fit sized =
+      raw_in (written_type kind) (written_level kind) (rolls_written kind) cells_type bytes (type_fits (datums.Raw bytes) (values.Raw bytes) (datums.outs-Raw bytes) (written_bytes_fit kind bytes fit)) sized
 
 -- ---- beside null
 
@@ -216,7 +212,7 @@ in_column false kind (cells.Bytes bytes) fit sized = value_beside (written_type 
 number_beside : (number : Option ℤ) → IsLong number → AreBytes (optional_type (schemas.Long Plain)) (number_datum number) (number_bytes number)
 number_beside None fit = null_beside (schemas.Long Plain)
 number_beside (Some number) fit = value_beside (schemas.Long Plain) (datums.Num number) (number_text number)
-    (number_in (schemas.Long Plain) (layers.Long Plain) (schemas.rolls-Long Plain) refl number (long_number_fits Plain number fit))
+    (number_in (schemas.Long Plain) (layers.Long Plain) (schemas.rolls-Long Plain) refl number fit)
 
 -- ---- the fields of a row
 
