@@ -1,10 +1,11 @@
 mod ItemLemmas
-mod ValueLemmas
 mod WrittenSchema
 mod WrittenRows
-mod WrittenFits
+mod WrittenItems
+mod WrittenBytes
 mod WrittenBlocks
 mod WrittenNames
 mod WrittenPrinted
 mod WrittenLaws
+mod RowBytesLemmas
 mod WritingLemmas

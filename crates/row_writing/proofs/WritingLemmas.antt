@@ -1,9 +1,8 @@
--- Rows, put as bytes and into blocks.
+-- Rows, put into blocks, and the file of them.
 use Rattle.std.proofs.Common.{◌≡◌, ℕ, zero, suc, ◌≤◌, Bool, true, false, List, [], ◌∷◌, ◌++◌, length, take, drop, min}
 use Rattle.std.proofs.Common.{All, map, codes, Result, Ok, Err, IfOk, refl, sym, ap, subst, ◌∙◌, append_assoc, arith}
 use Rattle.std.proofs.Common.{length-drop}
 use Rattle.std.specs.Prelude.{◌==◌}
-use Rattle.std.specs.Result.{OnOk}
 use Rattle.std.specs.declared.alloc.AllocError.{AllocError}
 use Rattle.std.proofs.lemmas.Bool.{eqb-true}
 use Rattle.std.proofs.lemmas.List.{nil_from_length, append-nil, take-append-drop, take_min, drop_min}
@@ -13,10 +12,6 @@ use Rattle.row_types.specs.declared.row.StoredRow.{StoredRow}
 use Rattle.row_types.specs.Columns.{IsColumns}
 use Rattle.row_types.specs.Fits.{fits_row}
 use Rattle.schema_tree.specs.declared.schema.Schema.{Schema}
-use Rattle.datum_tree.specs.declared.datum.Datum.{Datum}
-use Rattle.datum_tree.specs.Fits.{fits}
-use Rattle.datum_writing.specs.Canonical.{canonical}
-use Rattle.datum_tree.specs.Spelling.{IsEncoding}
 use Rattle.avro_schema.specs.Printable.{IsPrintable}
 use Rattle.avro_schema.specs.Printing.{schema_text}
 use Rattle.avro_schema.specs.Reading.{schema_of}
@@ -27,24 +22,11 @@ use Rattle.avro_container.specs.Header.{schema_key, codec_key}
 use Rattle.avro_container.specs.Format.{IsContainer}
 use Rattle.avro_container.specs.Writing.{IsWritable}
 use Rattle.stored_rows.specs.Stored.{StoresRows}
-use Rattle.row_writing.specs.Writing.{file_schema, row_datum, kept, block_size, block_of, blocks_of, file_container}
-use Rattle.row_writing.specs.Written.{HasLongs, IsEncodedRow, IsPrinted}
-use Rattle.row_writing.proofs.WrittenFits.{datum_fits}
+use Rattle.row_writing.specs.Writing.{file_schema, kept, block_size, block_of, blocks_of, file_container}
+use Rattle.row_writing.specs.Written.{IsEncodedRow, IsPrinted}
 use Rattle.row_writing.proofs.WrittenBlocks.{writable}
 use Rattle.row_writing.proofs.WrittenPrinted.{printable}
 use Rattle.row_writing.proofs.WrittenLaws.{file_stores}
-
--- ---- one row
-
--- the value of a row that fits is one of the file's schema
-row_fits : (columns : List Column) (lineage : Bool) (row : StoredRow) → fits_row columns row.cells ≡ true → HasLongs (kept lineage row) → fits (file_schema columns lineage) (row_datum columns lineage row) ≡ true
-row_fits columns true row fit longs = datum_fits columns true row fit longs.0 longs.1
-row_fits columns false row fit longs = datum_fits columns false (kept false row) fit longs.0 longs.1
-
--- a value's bytes are an encoding where it fits, so those of a row that fits are one
-pub row_encoded : (columns : List Column) (lineage : Bool) (row : StoredRow) (schema : Schema) (value : Datum) (result : Result (Unit {0}) AllocError) → schema ≡ file_schema columns lineage → value ≡ row_datum columns lineage row
-    → fits_row columns row.cells ≡ true → HasLongs (kept lineage row) → (fits schema value ≡ true → OnOk result (IsEncoding schema value (canonical schema value))) → OnOk result (IsEncodedRow columns lineage row)
-row_encoded columns lineage row schema value result is also fit longs encoded = (rw (is, also) at encoded) (row_fits columns lineage row fit longs)
 
 -- ---- blocks
 
@@ -111,10 +93,11 @@ blocks_end columns lineage rows blocks rest none before =
 
 -- ---- the file
 
--- the container of a file's schema, its header and its blocks
-pub container_made : (columns : List Column) (sync : List ℕ) (lineage : Bool) (rows : List StoredRow) (schema : Schema) (meta : List (List ℕ × List ℕ)) (blocks : List Block) → schema ≡ file_schema columns lineage → meta ≡ (schema_key, schema_text schema) ∷ (codec_key, codes "null") ∷ []
-    → blocks ≡ all_blocks columns lineage rows → file_container columns sync lineage rows ≡ record { meta = meta; sync = sync; blocks = blocks }
-container_made columns sync lineage rows schema meta blocks schema_is meta_is blocks_are = rw (meta_is, blocks_are, schema_is) refl
+-- the container of its header and its blocks
+pub container_made : (columns : List Column) (sync : List ℕ) (lineage : Bool) (rows : List StoredRow) (meta : List (List ℕ × List ℕ)) (blocks : List Block)
+    → meta ≡ (schema_key, schema_text (file_schema columns lineage)) ∷ (codec_key, codes "null") ∷ [] → blocks ≡ all_blocks columns lineage rows
+    → record { meta = meta; sync = sync; blocks = blocks } ≡ file_container columns sync lineage rows
+container_made columns sync lineage rows meta blocks meta_is blocks_are = rw (meta_is, blocks_are) refl
 
 -- the schema of a file can be printed, so its text is read as it
 pub printed_back : (columns : List Column) (lineage : Bool) (schema : Schema) → IsColumns columns → schema ≡ file_schema columns lineage → (IsPrintable schema → schema_of (schema_text schema) ≡ Ok schema) → IsPrinted columns lineage

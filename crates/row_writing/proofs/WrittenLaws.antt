@@ -1,26 +1,19 @@
 -- The file that is written of rows stores them.
-use Rattle.std.proofs.Common.{◌≡◌, ℕ, Bool, true, List, map, get_or, refl}
-use Rattle.std.specs.Prelude.{Ok, IfSome}
+use Rattle.std.proofs.Common.{◌≡◌, ℕ, Bool, true, List, map, refl}
 use Rattle.std.specs.List.{All}
 use Rattle.row_types.specs.declared.column.Column.{Column}
 use Rattle.row_types.specs.declared.row.StoredRow.{StoredRow}
 use Rattle.row_types.specs.Columns.{IsColumns}
-use Rattle.row_types.specs.Fits.{is_long, fits_row}
+use Rattle.row_types.specs.Fits.{fits_row}
 use Rattle.avro_schema.specs.Meaning.{IsSchemaText}
 use Rattle.avro_schema.specs.Printing.{schema_text}
-use Rattle.avro_schema.specs.Printable.{IsPrintable}
-use Rattle.avro_schema.specs.Reading.{schema_of}
 use Rattle.datum_tree.specs.Spelling.{IsEncoding}
 use Rattle.datum_writing.specs.Canonical.{canonical}
-use Rattle.datum_tree.specs.Fits.{fits}
 use Rattle.avro_container.specs.Format.{IsContainer}
-use Rattle.avro_container.specs.Writing.{IsWritable}
 use Rattle.stored_rows.specs.Stored.{StoresRows}
 use Rattle.row_writing.specs.Writing.{file_schema, row_datum, kept, file_container}
 use Rattle.row_writing.proofs.WrittenSchema.{readable}
-use Rattle.row_writing.proofs.WrittenFits.{datum_fits}
-use Rattle.row_writing.proofs.WrittenBlocks.{blocks_stored, writable}
-use Rattle.row_writing.proofs.WrittenPrinted.{printable}
+use Rattle.row_writing.proofs.WrittenBlocks.{blocks_stored}
 
 -- a file of the container of rows stores the rows, as they are kept
 pub file_stores : (bytes : List ℕ) (columns : List Column) (sync : List ℕ) (lineage : Bool) (rows : List StoredRow) → IsContainer bytes (file_container columns sync lineage rows)

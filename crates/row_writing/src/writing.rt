@@ -1,28 +1,24 @@
 //! Writing the rows of a data file.
 
-ghost use Rattle.std.specs.Prelude.{◌≡◌, ◌∷◌, ◌++◌, [], true, All, codes, length, map, Ok, IfOk, OnOk};
+ghost use Rattle.std.specs.Prelude.{◌≡◌, ◌∷◌, ◌++◌, [], true, All, codes, length, map, IfOk, OnOk};
 ghost use Rattle.words.specs.Reading.{Gives, never};
 ghost use Rattle.row_types.specs.Columns.{IsColumns};
 ghost use Rattle.row_types.specs.Fits.{fits_row};
 ghost use Rattle.avro_schema.specs.Printing.{schema_text};
-ghost use Rattle.avro_schema.specs.Printable.{IsPrintable};
-ghost use Rattle.avro_schema.specs.Reading.{schema_of};
 ghost use Rattle.avro_container.specs.Header.{schema_key, codec_key};
 ghost use Rattle.avro_container.specs.Writing.{container_text};
 ghost use Rattle.stored_rows.specs.Refusal.{is_memory};
 ghost use Rattle.stored_rows.specs.Stored.{StoresRows};
 ghost use Rattle.row_writing.specs.Writing.{file_schema as schema_of_file, block_of, blocks_of, file_container, file_of, kept, within_limit};
-ghost use Rattle.row_writing.specs.Written.{row_text, IsEncodedRow, IsPrinted};
+ghost use Rattle.row_writing.specs.Written.{IsEncodedRow, IsPrinted};
 
 use crate::file_schema::file_schema;
-use crate::row_value::row_value;
+use crate::row_bytes::put_row;
 use avro_container::{Block, Blocks, Container, Meta, write};
 use avro_schema::{print_schema, reading_agrees};
 use avro_wire::{Bytes, Text};
-use datum_writing::encode;
 use limits::{FILE_ROWS, OBJECT, Which};
 use row_types::{Column, Columns, StoredRow, StoredRows};
-use schema_tree::Schema;
 use sqlite_items::Items;
 use std::alloc::{AllocError, Global};
 use stored_rows::RowRefusal;
@@ -94,8 +90,8 @@ fn file(
     write(alloc, &container)
 }
 
-/// The container of the rows. Its schema's text is read as the schema, and each row's bytes are an
-/// encoding of its value.
+/// The container of the rows. The text of its schema is read as the schema, and each row's bytes are
+/// an encoding of its value.
 fn container_of(
     alloc: Global,
     columns: &[Column],
@@ -110,43 +106,24 @@ fn container_of(
     ensures printed { OnOk result (IsPrinted columns.now lineage) }
     ensures encoded { OnOk result (All (IsEncodedRow columns.now lineage) rows.now) }
 {
-    let schema = file_schema(alloc, columns, lineage)?;
-    container_with(alloc, columns, sync, lineage, &schema, rows)
-}
-
-/// The same, with the schema of the file.
-fn container_with(
-    alloc: Global,
-    columns: &[Column],
-    sync: [u8; 16],
-    lineage: bool,
-    schema: &Schema,
-    rows: &[StoredRow],
-) -> Result<Container, AllocError>
-    requires columns { IsColumns columns.now }
-    requires schema { schema.now ≡ schema_of_file columns.now lineage }
-    requires fits { All (λ row. fits_row columns.now row.cells ≡ true) rows.now }
-    ensures exact { IfOk result (λ container.
-        container ≡ file_container columns.now sync lineage rows.now) }
-    ensures printed { OnOk result (IsPrinted columns.now lineage) }
-    ensures encoded { OnOk result (All (IsEncodedRow columns.now lineage) rows.now) }
-{
-    let meta = header(alloc, schema)?;
+    let meta = header(alloc, columns, lineage)?;
     Ok(Container {
         meta,
         sync,
-        blocks: blocks(alloc, columns, lineage, schema, rows)?,
+        blocks: blocks(alloc, columns, lineage, rows)?,
     })
 }
 
-/// The header of a file with the schema, whose text is read as it where it can be printed.
-fn header(alloc: Global, schema: &Schema) -> Result<Meta, AllocError>
-    ensures exact { IfOk result (λ pairs.
-        pairs ≡ (schema_key, schema_text schema.now) ∷ (codec_key, codes "null") ∷ []) }
-    ensures reads_back { OnOk result (IsPrintable schema.now
-        → schema_of (schema_text schema.now) ≡ Ok schema.now) }
+/// The header of a file of the columns. The text of its schema is read as the schema.
+fn header(alloc: Global, columns: &[Column], lineage: bool) -> Result<Meta, AllocError>
+    requires columns { IsColumns columns.now }
+    ensures exact { IfOk result (λ pairs. pairs
+        ≡ (schema_key, schema_text (schema_of_file columns.now lineage))
+        ∷ (codec_key, codes "null") ∷ []) }
+    ensures printed { OnOk result (IsPrinted columns.now lineage) }
 {
-    let text = print_schema(alloc, schema)?;
+    let schema = file_schema(alloc, columns, lineage)?;
+    let text = print_schema(alloc, &schema)?;
     Ok(pairs_of(alloc, text)?)
 }
 
@@ -175,10 +152,8 @@ fn blocks(
     alloc: Global,
     columns: &[Column],
     lineage: bool,
-    schema: &Schema,
     rows: &[StoredRow],
 ) -> Result<Blocks, AllocError>
-    requires schema { schema.now ≡ schema_of_file columns.now lineage }
     requires fits { All (λ row. fits_row columns.now row.cells ≡ true) rows.now }
     ensures exact { IfOk result (λ blocks.
         blocks ≡ blocks_of (length rows.now) columns.now lineage rows.now) }
@@ -188,7 +163,7 @@ fn blocks(
     let mut rest = rows;
     while !rest.is_empty() {
         let (front, behind) = rest.split_at(BLOCK_ROWS.min(rest.len()));
-        list.push(block(alloc, columns, lineage, schema, front)?)?;
+        list.push(block(alloc, columns, lineage, front)?)?;
         rest = behind;
     }
     Ok(list)
@@ -199,39 +174,18 @@ fn block(
     alloc: Global,
     columns: &[Column],
     lineage: bool,
-    schema: &Schema,
     rows: &[StoredRow],
 ) -> Result<Block, AllocError>
-    requires schema { schema.now ≡ schema_of_file columns.now lineage }
     requires fits { All (λ row. fits_row columns.now row.cells ≡ true) rows.now }
     ensures exact { IfOk result (λ block. block ≡ block_of columns.now lineage rows.now) }
     ensures encoded { OnOk result (All (IsEncodedRow columns.now lineage) rows.now) }
 {
     let mut bytes = Vec::new(alloc);
     for row in rows {
-        put_row(alloc, columns, lineage, schema, row, &mut bytes)?;
+        put_row(columns, lineage, row, &mut bytes)?;
     }
     Ok(Block {
         count: rows.len() as i64,
         bytes: Bytes::from_vec(bytes),
     })
-}
-
-/// Puts the row's bytes, which are an encoding of its value.
-fn put_row(
-    alloc: Global,
-    columns: &[Column],
-    lineage: bool,
-    schema: &Schema,
-    row: &StoredRow,
-    out: &mut Vec<u8>,
-) -> Result<(), AllocError>
-    requires schema { schema.now ≡ schema_of_file columns.now lineage }
-    requires fits { fits_row columns.now row.now.cells ≡ true }
-    ensures ok { OnOk result
-        (out.new.items ≡ out.old.items ++ row_text columns.now lineage row.now) }
-    ensures encoded { OnOk result (IsEncodedRow columns.now lineage row.now) }
-{
-    let value = row_value(alloc, columns, lineage, row)?;
-    encode(schema, &value, out)
 }
