@@ -1,15 +1,13 @@
--- How `rows` may end: by the columns of the file, by its rows, or with a line for each row.
-use Rattle.std.proofs.Common.{◌≡◌, ℕ, Bool, true, false, pos, List, Option, None, Result, Ok, Err, refl, sym, ap, ◌∙◌}
+-- How `rows` may end: by a refusal of the file, or with a line for each row.
+use Rattle.std.proofs.Common.{◌≡◌, ℕ, Bool, true, false, pos, List, Option, Result, Ok, Err, refl, sym, ap}
 use Rattle.std.proofs.Common.{option_map}
 use Rattle.std.specs.Bool.{OnFalse}
 use Rattle.words.specs.Reading.{◌>>=◌, map_refusal}
 use Rattle.words.specs.Laws.{refused_so}
-use Rattle.row_types.specs.declared.column.Column.{Column}
 use Rattle.row_types.specs.declared.row.Row.{Row}
 use Rattle.stored_rows.specs.declared.refusal.RowRefusal.{RowRefusal}
 use Rattle.stored_rows.specs.Refusal.{is_memory as wants_memory}
-use Rattle.row_reading.specs.Columns.{file_columns_of}
-use Rattle.row_reading.specs.File.{rows_of}
+use Rattle.row_reading.specs.OwnRows.{own_rows_of}
 use Rattle.lineage_cli.specs.declared.command.Command.TheVariants.{Rows}
 use Rattle.lineage_cli.specs.declared.ending.Ending.{Ending}
 use Rattle.lineage_cli.specs.declared.ending.Ending.TheVariants.{Table}
@@ -39,45 +37,26 @@ by_rows (Err why) ending refused = let e : Table why ≡ ending = cc in sym (ap 
 pub rows_answers : (first : Option ℕ) (sequence : ℕ) (bytes : List ℕ) (ending : Ending) → answer_of (Rows first sequence) bytes ≡ Err ending → is_answer ending ≡ true
 rows_answers first sequence bytes ending refused = by_rows (file_rows first sequence bytes) ending refused
 
--- ---- the columns are refused
-
-by_columns : (read : Result (List Column) RowRefusal) (rows : List Column → Result (List Row) RowRefusal) (ending : Ending) → map_refusal Table read ≡ Err ending → rows_answer (read >>= rows) ≡ Err ending
-by_columns (Ok columns) rows ending refused = absurd cc
-by_columns (Err why) rows ending refused = cc
-
--- the answer of a file whose columns are refused, or for which memory ran out
-pub without_columns : (first : Option ℕ) (sequence : ℕ) (bytes : List ℕ) (ending : Ending) → OnFalse (is_memory ending) (map_refusal Table (file_columns_of bytes) ≡ Err ending) → OnFalse (is_memory ending) (answer_of (Rows first sequence) bytes ≡ Err ending)
-unfolding file_rows
-without_columns first sequence bytes ending refused =
-    refused_so (is_memory ending) (by_columns (file_columns_of bytes) (λ columns. rows_of bytes columns (option_map pos first) (pos sequence) None) ending) refused
-
--- ---- the columns are there
-
-with_columns : (read : Result (List Column) RowRefusal) (columns : List Column) (rows : List Column → Result (List Row) RowRefusal) → map_refusal Table read ≡ Ok columns → rows_answer (read >>= rows) ≡ rows_answer (rows columns)
-with_columns (Ok found) columns rows read = ap (λ (cs : List Column). rows_answer (rows cs)) cc
-with_columns (Err why) columns rows read = absurd cc
-
--- the answer of a file whose columns are these is that of its rows by them
-of_rows : (first : Option ℕ) (sequence : ℕ) (bytes : List ℕ) (columns : List Column) → map_refusal Table (file_columns_of bytes) ≡ Ok columns → answer_of (Rows first sequence) bytes ≡ rows_answer (rows_of bytes columns (option_map pos first) (pos sequence) None)
-unfolding file_rows
-of_rows first sequence bytes columns read = with_columns (file_columns_of bytes) columns (λ cs. rows_of bytes cs (option_map pos first) (pos sequence) None) read
+-- ---- the rows are refused
 
 by_refusal : (read : Result (List Row) RowRefusal) (ending : Ending) → map_refusal Table read ≡ Err ending → rows_answer read ≡ Err ending
 by_refusal (Ok rows) ending refused = absurd cc
 by_refusal (Err why) ending refused = cc
 
--- the answer of a file whose rows are refused, or for which memory ran out
-pub without_rows : (first : Option ℕ) (sequence : ℕ) (bytes : List ℕ) (columns : List Column) (ending : Ending) → map_refusal Table (file_columns_of bytes) ≡ Ok columns
-    → OnFalse (is_memory ending) (map_refusal Table (rows_of bytes columns (option_map pos first) (pos sequence) None) ≡ Err ending) → OnFalse (is_memory ending) (answer_of (Rows first sequence) bytes ≡ Err ending)
-without_rows first sequence bytes columns ending read refused =
-    refused_so (is_memory ending) (λ why. of_rows first sequence bytes columns read ∙ by_refusal (rows_of bytes columns (option_map pos first) (pos sequence) None) ending why) refused
+-- the answer of a file that is refused, or for which memory ran out
+pub without_rows : (first : Option ℕ) (sequence : ℕ) (bytes : List ℕ) (ending : Ending)
+    → OnFalse (is_memory ending) (map_refusal Table (own_rows_of bytes (option_map pos first) (pos sequence)) ≡ Err ending) → OnFalse (is_memory ending) (answer_of (Rows first sequence) bytes ≡ Err ending)
+unfolding file_rows
+without_rows first sequence bytes ending refused = refused_so (is_memory ending) (by_refusal (own_rows_of bytes (option_map pos first) (pos sequence)) ending) refused
+
+-- ---- the rows are there
 
 by_lines : (read : Result (List Row) RowRefusal) (rows : List Row) → map_refusal Table read ≡ Ok rows → rows_answer read ≡ Ok (lines rows)
 by_lines (Ok found) rows read = ap (λ (rs : List Row). Ok (lines rs)) cc
 by_lines (Err why) rows read = absurd cc
 
 -- the answer of a file that has these rows
-pub with_rows : (first : Option ℕ) (sequence : ℕ) (bytes : List ℕ) (columns : List Column) (rows : List Row) → map_refusal Table (file_columns_of bytes) ≡ Ok columns
-    → map_refusal Table (rows_of bytes columns (option_map pos first) (pos sequence) None) ≡ Ok rows → answer_of (Rows first sequence) bytes ≡ Ok (lines rows)
-with_rows first sequence bytes columns rows columns_read rows_read =
-    of_rows first sequence bytes columns columns_read ∙ by_lines (rows_of bytes columns (option_map pos first) (pos sequence) None) rows rows_read
+pub with_rows : (first : Option ℕ) (sequence : ℕ) (bytes : List ℕ) (rows : List Row) → map_refusal Table (own_rows_of bytes (option_map pos first) (pos sequence)) ≡ Ok rows
+    → answer_of (Rows first sequence) bytes ≡ Ok (lines rows)
+unfolding file_rows
+with_rows first sequence bytes rows read = by_lines (own_rows_of bytes (option_map pos first) (pos sequence)) rows read

@@ -7,6 +7,7 @@ use Rattle.row_types.specs.declared.row.Row.{Row}
 use Rattle.stored_rows.specs.declared.refusal.RowRefusal.{RowRefusal}
 use Rattle.row_reading.specs.Columns.{file_columns_of}
 use Rattle.row_reading.specs.File.{rows_of}
+use Rattle.row_reading.specs.OwnRows.{own_rows_of}
 use Rattle.stored_rows.specs.Stored.{ReadsRows}
 use Rattle.lineage_cli.specs.Rows.{file_rows, AreStored}
 
@@ -27,5 +28,5 @@ by_columns found first sequence bytes (Ok columns) is = by_rows (rows_of bytes c
 
 -- whatever the file
 pub rows_are_stored : (found : Found) (first : Option ℕ) (sequence : ℕ) (bytes : List ℕ) → IfOk (file_rows first sequence bytes) (AreStored first sequence bytes)
-unfolding file_rows
+unfolding file_rows own_rows_of
 rows_are_stored found first sequence bytes = by_columns found first sequence bytes (file_columns_of bytes) refl

@@ -1,13 +1,11 @@
 //! Answering `rows`: the rows of a data file, by the columns of its own schema.
 
 ghost use Rattle.std.specs.Prelude.{◌≡◌, ◌<◌, ◌≤◌, ◌^◌, length, pos, IfSome, Ok};
-ghost use Rattle.std.specs.declared.option.Option.TheVariants.{None};
 ghost use Rattle.std.specs.Bool.{OnFalse};
 ghost use Rattle.std.specs.Option.{option_map};
 ghost use Rattle.words.specs.Reading.{Gives, map_refusal};
 ghost use Rattle.stored_rows.specs.Refusal.{is_memory as wants_memory};
-ghost use Rattle.row_reading.specs.Columns.{file_columns_of};
-ghost use Rattle.row_reading.specs.File.{rows_of};
+ghost use Rattle.row_reading.specs.OwnRows.{own_rows_of};
 ghost use Rattle.lineage_cli.specs.Input.{most_input};
 ghost use Rattle.lineage_cli.specs.Text.{lines};
 ghost use Rattle.lineage_cli.specs.Run.{answer_to, is_memory, IsOutcome};
@@ -16,8 +14,7 @@ use crate::command::Command;
 use crate::ending::Ending;
 use crate::printing::print_rows;
 use lt_port::{PortError, Sink};
-use row_reading::{CheckedRows, check_file, file_columns};
-use row_types::Columns;
+use row_reading::{CheckedRows, check_own_rows};
 use std::alloc::Global;
 use stored_rows::RowRefusal;
 
@@ -36,21 +33,8 @@ pub fn answer_rows<W: Sink>(
         (record { bytes = W.written out.old; faults = W.faults out.old })
         (record { bytes = W.written out.new; faults = W.faults out.new }) result }
 {
-    let columns = columns_in(alloc, bytes)?;
-    let rows = rows_in(alloc, bytes, &columns, signed(first), sequence)?;
+    let rows = rows_in(alloc, bytes, signed(first), sequence)?;
     print(alloc, rows, out)
-}
-
-/// The columns of the file.
-#[tactic(auto, using(crate::proofs::RowsLemmas::refused_file))]
-fn columns_in(alloc: Global, bytes: &[u8]) -> Result<Columns, Ending>
-    ensures { Gives is_memory (λ columns. columns) result
-        (map_refusal Ending.Table (file_columns_of bytes.now)) }
-{
-    match file_columns(alloc, bytes) {
-        Ok(columns) => Ok(columns),
-        Err(refusal) => Err(ending_of(refusal)),
-    }
 }
 
 /// The rows of the file, all of which were checked.
@@ -58,15 +42,14 @@ fn columns_in(alloc: Global, bytes: &[u8]) -> Result<Columns, Ending>
 fn rows_in<'a>(
     alloc: Global,
     bytes: &'a [u8],
-    columns: &'a Columns,
     first: Option<i64>,
     sequence: u64,
 ) -> Result<CheckedRows<'a>, Ending>
     requires { sequence < 2 ^ 63 }
     ensures { Gives is_memory (λ rows. rows.left) result
-        (map_refusal Ending.Table (rows_of bytes.now columns.now first (pos sequence) None)) }
+        (map_refusal Ending.Table (own_rows_of bytes.now first (pos sequence))) }
 {
-    match check_file(alloc, bytes, columns, first, sequence as i64, None) {
+    match check_own_rows(alloc, bytes, first, sequence as i64) {
         Ok(rows) => Ok(rows),
         Err(refusal) => Err(ending_of(refusal)),
     }

@@ -7,7 +7,7 @@
 //! | `row_writing` | the file of rows |
 #![tactic(auto)]
 
-pub use row_reading::{CheckedRows, check_file, file_columns, read_rows};
+pub use row_reading::{CheckedRows, check_file, check_own_rows, file_columns, read_rows};
 pub use row_types::CellRef;
 pub use row_writing::write_rows;
 pub use stored_rows::{RowRefusal, row_id, row_last};

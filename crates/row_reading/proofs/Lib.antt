@@ -4,6 +4,8 @@ pub mod RowLaws
 pub mod StoredRows
 pub mod CountLemmas
 pub mod StoredLaws
+pub mod RowByRow
 pub mod CheckingLemmas
 pub mod ShownLemmas
 pub mod ReadingLemmas
+pub mod OwnRowsLemmas

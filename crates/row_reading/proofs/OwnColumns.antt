@@ -186,11 +186,21 @@ pub own_columns : (bytes : List ℕ) (result : Result (List Column) RowRefusal) 
 own_columns bytes (Ok columns) gives = file_read bytes columns gives
 own_columns bytes (Err refusal) gives = tt
 
--- a file that was opened, whose fields have columns that were checked, has those
-pub opened_columns : (bytes : List ℕ) (container : Container) (schema : Schema) (list : List Column) (result : Result (List Column) RowRefusal) → opened bytes ≡ Ok (container, schema) → columns_from [] (fields_of schema) ≡ Ok list → Gives never (λ columns. columns) result (checked list)
-    → Gives is_memory (λ columns. columns) result (file_columns_of bytes)
-unfolding file_columns_of columns_in
-opened_columns bytes container schema list (Ok columns) opens listed gives = rw (opens, listed) gives
-opened_columns bytes container schema list (Err refusal) opens listed gives =
-    let refused : file_columns_of bytes ≡ Err refusal = rw (opens, listed) gives in
+-- fields that make no columns are refused
+pub columns_refused : (fields own : List Field) (e : RowRefusal) → fields ≡ own → columns_from [] fields ≡ Err e → (columns_from [] own >>= checked) ≡ Err e
+columns_refused fields own e is refused = rw (← is, refused) refl
+
+-- the columns that fields make, if they are those of a table
+pub columns_given : (fields own : List Field) (list : List Column) (result : Result (List Column) RowRefusal) → fields ≡ own → columns_from [] fields ≡ Ok list → Gives never (λ columns. columns) result (checked list)
+    → Gives is_memory (λ columns. columns) result (columns_from [] own >>= checked)
+columns_given fields own list (Ok columns) is listed gives = rw (← is, listed) gives
+columns_given fields own list (Err refusal) is listed gives =
+    let refused : (columns_from [] own >>= checked) ≡ Err refusal = rw (← is, listed) gives in
     refused_for_certain (is_memory refusal) refused
+
+-- those of a file that was opened
+pub opened_columns : (bytes : List ℕ) (container : Container) (schema : Schema) (result : Result (List Column) RowRefusal) → opened bytes ≡ Ok (container, schema)
+    → Gives is_memory (λ columns. columns) result (columns_from [] (fields_of schema) >>= checked) → Gives is_memory (λ columns. columns) result (file_columns_of bytes)
+unfolding file_columns_of columns_in
+opened_columns bytes container schema (Ok columns) opens gives = rw opens gives
+opened_columns bytes container schema (Err refusal) opens gives = rw opens gives

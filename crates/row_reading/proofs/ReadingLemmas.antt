@@ -13,12 +13,12 @@ use Rattle.stored_rows.specs.Rows.{rows_from}
 use Rattle.stored_rows.specs.Stored.{StoresRows, ReadsRows, AreRead}
 
 -- what is read is stored
-abbrev Found : Type 0
+abbrev pub Found : Type 0
 Found = (bytes : List ℕ) (columns : List Column) (first : Option ℤ) (sequence : ℤ) (told : Option ℤ) (rows : List Row)
     → rows_of bytes columns first sequence told ≡ Ok rows → ReadsRows bytes columns first sequence rows
 
 -- what is stored is read
-abbrev Only : Type 0
+abbrev pub Only : Type 0
 Only = (bytes : List ℕ) (columns : List Column) (first : Option ℤ) (sequence : ℤ) (told : Option ℤ) (stored : List StoredRow)
     → StoresRows bytes columns stored → AreRead first told (file_size bytes stored)
     → rows_of bytes columns first sequence told ≡ Ok (rows_from first sequence 0 stored)

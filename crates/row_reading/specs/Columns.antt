@@ -7,7 +7,7 @@ use Rattle.row_types.specs.declared.column.Column.{Column}
 use Rattle.row_types.specs.declared.column.Kind.{Kind}
 use Rattle.row_types.specs.Columns.{first_fault, has_wrong_id, has_wrong_name, most_columns}
 use Rattle.schema_tree.specs.declared.schema.Field.{Field, out-Field}
-use Rattle.schema_tree.specs.declared.schema.Schema.{out-Schema}
+use Rattle.schema_tree.specs.declared.schema.Schema.{Schema, out-Schema}
 use Rattle.stored_rows.specs.declared.refusal.RowRefusal.{RowRefusal}
 use Rattle.stored_rows.specs.declared.refusal.RowRefusal.TheVariants.{Kind as WrongKind}
 use Rattle.avro_cells.specs.Kind.{Nullable, nullable, kind_of}
@@ -57,9 +57,13 @@ checked columns =
       _ ← no_fault (first_fault has_wrong_name [] columns)
       Ok columns)
 
+-- the columns of a schema
+abbrev pub schema_columns : Schema → Result (List Column) RowRefusal
+schema_columns schema = columns_from [] (fields_of schema) >>= checked
+
 -- the columns of a file that was opened
 unfoldable pub columns_in : Opened → Result (List Column) RowRefusal
-columns_in (container, schema) = columns_from [] (fields_of schema) >>= checked
+columns_in (container, schema) = schema_columns schema
 
 -- the columns of a file
 unfoldable pub file_columns_of : List ℕ → Result (List Column) RowRefusal

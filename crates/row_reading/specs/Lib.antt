@@ -4,4 +4,5 @@ pub mod Checking
 pub mod Checked
 pub mod Fault
 pub mod Columns
+pub mod OwnRows
 pub mod Laws

@@ -1,36 +1,31 @@
 //! The rows of a file that was checked whole, shown one after the other.
 
-ghost use Rattle.std.specs.Prelude.{◌≡◌, ◌<◌, ◌≤◌, ◌^◌, ◌∷◌, List, [], length, map, Ok, IfOk, OnOk};
+ghost use Rattle.std.specs.Prelude.{◌≡◌, ◌∷◌, List, [], map, Ok, IfOk, OnOk};
+ghost use Rattle.std.specs.declared.option.Option.TheVariants.{None};
 ghost use Rattle.std.specs.Bool.{OnTrue, OnFalse};
-ghost use Rattle.words.specs.Reading.{Gives, never};
+ghost use Rattle.words.specs.Reading.{Gives};
 ghost use Rattle.row_types.specs.CellRef.{lent_cell};
+ghost use Rattle.row_types.specs.declared.column.Column.{Column as AColumn};
 ghost use Rattle.row_types.specs.declared.row.StoredRow.{StoredRow as AStoredRow};
-ghost use Rattle.objects.specs.Blocks.{count_all};
-ghost use Rattle.fields.specs.Wanted.{fields_of};
-ghost use Rattle.fields.specs.Record.{IsLayout};
 ghost use Rattle.stored_rows.specs.Refusal.{is_memory};
-ghost use Rattle.stored_rows.specs.Field.{check_fields};
-ghost use Rattle.limits.specs.Limits.{most_rows};
 ghost use Rattle.stored_rows.specs.Rows.{rows_from};
 ghost use Rattle.stored_rows.specs.Stored.{StoresRows, ReadsRows, AreRead};
 ghost use Rattle.row_reading.specs.File.{file_size, rows_of};
-ghost use Rattle.row_reading.specs.Checking.{check_before_rows, rows_in_blocks, check_all_rows};
-ghost use Rattle.row_reading.specs.Checking.{AreRight, all_rows, rows_opened};
-ghost use Rattle.row_reading.specs.Checked.{row_by, rows_left, AreReady};
+ghost use Rattle.row_reading.specs.Columns.{file_columns_of};
+ghost use Rattle.row_reading.specs.Checking.{check_all_rows, AreRight, all_rows};
+ghost use Rattle.row_reading.specs.Checked.{rows_left, AreReady, AreUnchecked};
+ghost use Rattle.row_reading.specs.OwnRows.{own_rows_of, ReadsOwnRows};
 
-use crate::counts::{check_counts, check_ids, check_told};
+use crate::counts::check_numbers;
 use crate::law::reading_agrees;
-use crate::opening::open_file;
-use crate::row::{FileRow, own_cells, own_id, own_last, row_layout};
-use avro_container::Walk;
-use fields::{Layout, fields_of, nulls};
+use crate::row::{FileRow, own_cells, own_id, own_last};
+use crate::unchecked::{own_unchecked_rows, unchecked_rows};
 use objects::Objects;
 use records::Records;
-use row_types::{CellRef, Column, Columns};
-use schema_tree::Schema;
-use std::alloc::{AllocError, Global};
-use std::marker::{Model, PhantomData};
-use stored_rows::{RowRefusal, check_fields, row_id, row_last};
+use row_types::{CellRef, Columns};
+use std::alloc::Global;
+use std::marker::Model;
+use stored_rows::{RowRefusal, row_id, row_last};
 
 /// The rows of a file, all of which were checked, shown one after the other. Their texts and bytes
 /// are borrowed from the file, and showing one takes no memory. Contracts see the row that is
@@ -126,11 +121,35 @@ pub fn check_file<'a>(
     check_all(alloc, bytes, columns, first, sequence, told)
 }
 
-/// The same, by the reading of the bytes alone.
+/// Checks the file whole, for the columns of its own schema: those of `file_columns`. `first`,
+/// `sequence`: as for `check_file`. The file is opened once.
+///
+/// The order of the refusals: those of `file_columns`; then those of `check_file`.
+pub fn check_own_rows<'a>(
+    alloc: Global,
+    bytes: &'a [u8],
+    first: Option<i64>,
+    sequence: i64,
+) -> Result<CheckedRows<'a>, RowRefusal>
+    // The rows are those that the file stores, and what it stores is shown.
+    ensures found { IfOk result (λ rows. ReadsOwnRows bytes.now first sequence rows.left) }
+    ensures only { (columns : List AColumn) (stored : List AStoredRow)
+        → file_columns_of bytes.now ≡ Ok columns → StoresRows bytes.now columns stored
+        → AreRead first None (file_size bytes.now stored)
+        → Gives is_memory (λ rows. rows.left) result (Ok (rows_from first sequence 0 stored)) }
+    // Which refusal comes.
+    ensures exact { Gives is_memory (λ rows. rows.left) result
+        (own_rows_of bytes.now first sequence) }
+{
+    reading_agrees();
+    check_own(alloc, bytes, first, sequence)
+}
+
+/// What `check_file` answers.
 fn check_all<'a>(
     alloc: Global,
     bytes: &'a [u8],
-    columns: &'a Columns,
+    columns: &Columns,
     first: Option<i64>,
     sequence: i64,
     told: Option<i64>,
@@ -138,78 +157,36 @@ fn check_all<'a>(
     ensures exact { Gives is_memory (λ rows. rows.left) result
         (rows_of bytes.now columns.now first sequence told) }
 {
-    let (walk, schema) = open_file(alloc, bytes)?;
-    check_opened(
-        alloc,
-        walk,
-        schema,
-        columns.as_slice(),
-        first,
-        sequence,
-        told,
-    )
+    let (rows, told_rows) = unchecked_rows(alloc, bytes, columns)?;
+    show_checked(rows, told_rows, first, sequence, told)
 }
 
-/// The rows of a file that was opened.
-fn check_opened<'a>(
+/// What `check_own_rows` answers.
+fn check_own<'a>(
     alloc: Global,
-    mut walk: Walk<'a>,
-    schema: Schema,
-    columns: &'a [Column],
+    bytes: &'a [u8],
     first: Option<i64>,
     sequence: i64,
-    told: Option<i64>,
 ) -> Result<CheckedRows<'a>, RowRefusal>
-    requires fits { length walk.whole.blocks < 2 ^ 63 }
     ensures exact { Gives is_memory (λ rows. rows.left) result
-        (rows_opened columns.now first sequence told (walk.entry.whole, schema)) }
+        (own_rows_of bytes.now first sequence) }
 {
-    let rows = check_before_rows(&mut walk, &schema, columns)?;
-    walk.restart();
-    let layout = row_layout(alloc, schema, columns)?;
-    show_checked(alloc, walk, layout, rows, first, sequence, told)
+    let (rows, told_rows) = own_unchecked_rows(alloc, bytes)?;
+    show_checked(rows, told_rows, first, sequence, None)
 }
 
-/// How many rows the blocks of the file say that they have, if the columns can be read from the
-/// file's fields, and a file may have so many rows.
-fn check_before_rows(
-    walk: &mut Walk<'_>,
-    schema: &Schema,
-    columns: &[Column],
-) -> Result<u64, RowRefusal>
-    ensures exact { Gives never (λ _. tt) result
-        (check_before_rows columns.now schema.now walk.old.whole.blocks) }
-    ensures readable { OnOk result (check_fields (fields_of schema.now) columns.now ≡ Ok tt) }
-    ensures rows { IfOk result (λ rows.
-        (rows ≡ count_all walk.old.whole.blocks) × (rows ≤ most_rows)) }
-    ensures whole { walk.new.whole ≡ walk.old.whole }
-{
-    check_fields(fields_of(schema), columns)?;
-    walk.restart();
-    Ok(check_counts(walk)?)
-}
-
-/// The rows of a file of which all was checked that comes before them. `told_rows`: how many rows
-/// its blocks say that they have.
+/// The rows, if they pass all checks. `told_rows`: how many rows the blocks say that they have.
 fn show_checked<'a>(
-    alloc: Global,
-    walk: Walk<'a>,
-    layout: Layout,
+    mut rows: Objects<'a, Records<FileRow>>,
     told_rows: u64,
     first: Option<i64>,
     sequence: i64,
     told: Option<i64>,
 ) -> Result<CheckedRows<'a>, RowRefusal>
-    requires layout { IsLayout layout }
-    requires lineage { 2 ≤ length layout.wanted.items }
-    requires start { walk.left ≡ walk.whole.blocks }
-    requires rows { (told_rows ≡ count_all walk.whole.blocks) × (told_rows ≤ most_rows) }
-    requires fits { length walk.whole.blocks < 2 ^ 63 }
+    requires unchecked { AreUnchecked rows.reader.layout rows.rest rows.slot told_rows }
     ensures exact { Gives is_memory (λ rows. rows.left) result
-        (all_rows (rows_in_blocks (row_by layout) walk.entry.whole.blocks)
-        first sequence told) }
+        (all_rows (rows_left rows.entry.reader.layout rows.entry.rest) first sequence told) }
 {
-    let mut rows = rows_at_start(alloc, walk, layout)?;
     check_all_rows(&mut rows, told_rows, first, told)?;
     Ok(CheckedRows {
         rows,
@@ -221,30 +198,6 @@ fn show_checked<'a>(
     })
 }
 
-/// The rows of all blocks, of which none was read.
-fn rows_at_start<'a>(
-    alloc: Global,
-    walk: Walk<'a>,
-    layout: Layout,
-) -> Result<Objects<'a, Records<FileRow>>, AllocError>
-    requires layout { IsLayout layout }
-    requires lineage { 2 ≤ length layout.wanted.items }
-    requires start { walk.left ≡ walk.whole.blocks }
-    requires fits { length walk.whole.blocks < 2 ^ 63 }
-    ensures ready { IfOk result (λ rows. AreReady rows.reader.layout rows.rest rows.slot) }
-    ensures left { IfOk result (λ rows. rows_left rows.reader.layout rows.rest
-        ≡ rows_in_blocks (row_by rows.reader.layout) rows.rest.walk.whole.blocks) }
-    ensures layout { IfOk result (λ rows. rows.reader.layout ≡ layout) }
-    ensures whole { IfOk result (λ rows. rows.rest.walk.whole ≡ walk.entry.whole) }
-{
-    let slot = nulls(alloc, &layout)?;
-    let reader = Records {
-        layout,
-        of: PhantomData,
-    };
-    Ok(Objects::new(reader, walk, slot))
-}
-
 /// Whether all rows of the file are right, as many as the caller says, and with ids that end in
 /// time. None of them is shown then.
 fn check_all_rows<'a>(
@@ -253,12 +206,8 @@ fn check_all_rows<'a>(
     first: Option<i64>,
     told: Option<i64>,
 ) -> Result<(), RowRefusal>
-    requires ready { AreReady rows.old.reader.layout rows.old.rest rows.old.slot }
-    requires left { rows_left rows.old.reader.layout rows.old.rest
-        ≡ rows_in_blocks (row_by rows.old.reader.layout) rows.old.rest.walk.whole.blocks }
-    requires rows { (told_rows ≡ count_all rows.old.rest.walk.whole.blocks)
-        × (told_rows ≤ most_rows) }
-    requires fits { length rows.old.rest.walk.whole.blocks < 2 ^ 63 }
+    requires unchecked { AreUnchecked rows.old.reader.layout rows.old.rest rows.old.slot
+        told_rows }
     ensures exact { result
         ≡ check_all_rows (rows_left rows.old.reader.layout rows.old.rest) first told }
     ensures ready { AreReady rows.new.reader.layout rows.new.rest rows.new.slot }
@@ -267,8 +216,7 @@ fn check_all_rows<'a>(
     ensures right { OnOk result (AreRight (rows_left rows.new.reader.layout rows.new.rest) first) }
 {
     rows.check()?;
-    check_told(told, told_rows)?;
-    check_ids(first, told_rows)?;
+    check_numbers(told_rows, first, told)?;
     rows.restart();
     Ok(())
 }

@@ -10,7 +10,8 @@ ghost use Rattle.fields.specs.Wanted.{fields_of};
 ghost use Rattle.stored_rows.specs.Field.{find};
 ghost use Rattle.row_reading.specs.File.{opened};
 ghost use Rattle.stored_rows.specs.Stored.{IsHeld};
-ghost use Rattle.row_reading.specs.Columns.{column_of_type, with_field, columns_from, checked, file_columns_of};
+ghost use Rattle.row_reading.specs.Columns.{column_of_type, with_field, columns_from, checked, schema_columns};
+ghost use Rattle.row_reading.specs.Columns.{file_columns_of};
 ghost use Rattle.row_reading.specs.Fault.{id_of};
 
 use crate::opening::open_file;
@@ -46,16 +47,24 @@ pub fn file_columns(alloc: Global, bytes: &[u8]) -> Result<Columns, RowRefusal>
     ensures readable { IfOk result (λ columns. IfOk (opened bytes.now) (λ file.
         All (λ column. IsHeld column (find column.id (fields_of file.1))) columns)) }
 {
-    let list = opened_columns(alloc, open_file(alloc, bytes)?)?;
-    checked(list)
+    opened_columns(alloc, open_file(alloc, bytes)?)
 }
 
-/// The columns of the fields of a file that was opened.
-fn opened_columns(alloc: Global, file: (Walk<'_>, Schema)) -> Result<Vec<Column>, RowRefusal>
-    ensures exact { Gives is_memory (λ columns. columns.items) result
-        (columns_from [] (fields_of file.entry.1)) }
+/// The columns of a file that was opened.
+fn opened_columns(alloc: Global, file: (Walk<'_>, Schema)) -> Result<Columns, RowRefusal>
+    ensures exact { Gives is_memory (λ columns. columns) result
+        (schema_columns file.entry.1) }
 {
-    take_columns(alloc, fields_of(&file.1))
+    own_columns(alloc, &file.1)
+}
+
+/// The columns of a file with the schema.
+pub fn own_columns(alloc: Global, schema: &Schema) -> Result<Columns, RowRefusal>
+    ensures exact { Gives is_memory (λ columns. columns) result
+        (schema_columns schema.now) }
+{
+    let list = take_columns(alloc, fields_of(schema))?;
+    checked(list)
 }
 
 /// The columns of the fields.

@@ -5,6 +5,7 @@ ghost use Rattle.words.specs.Reading.{Gives, never};
 ghost use Rattle.objects.specs.Blocks.{count_all};
 ghost use Rattle.limits.specs.Limits.{most_rows};
 ghost use Rattle.row_reading.specs.File.{check_counts, check_told, check_ids};
+ghost use Rattle.row_reading.specs.Checking.{check_numbers};
 
 use avro_container::Walk;
 use limits::{FILE_ROWS, Which};
@@ -31,8 +32,17 @@ pub fn check_counts(walk: &mut Walk<'_>) -> Result<u64, RowRefusal>
     Ok(rows)
 }
 
+/// Whether the file has as many rows as the caller says, and ids that end in time.
+pub fn check_numbers(rows: u64, first: Option<i64>, told: Option<i64>) -> Result<(), RowRefusal>
+    requires few { rows ≤ most_rows }
+    ensures { result ≡ check_numbers rows first told }
+{
+    check_told(told, rows)?;
+    check_ids(first, rows)
+}
+
 /// Whether the file has as many rows as the caller says, if that is said.
-pub fn check_told(told: Option<i64>, rows: u64) -> Result<(), RowRefusal>
+fn check_told(told: Option<i64>, rows: u64) -> Result<(), RowRefusal>
     requires few { rows ≤ most_rows }
     ensures { result ≡ check_told told rows }
 {
@@ -45,7 +55,7 @@ pub fn check_told(told: Option<i64>, rows: u64) -> Result<(), RowRefusal>
 
 /// Whether the first row id, if there is one, and the number of rows are together at most the
 /// largest long.
-pub fn check_ids(first: Option<i64>, rows: u64) -> Result<(), RowRefusal>
+fn check_ids(first: Option<i64>, rows: u64) -> Result<(), RowRefusal>
     requires few { rows ≤ most_rows }
     ensures { result ≡ check_ids first rows }
 {

@@ -1,6 +1,6 @@
 use Rattle.std.proofs.lemmas.Result.{err_from_is_err_and}
 use Rattle.row_reading.proofs.CheckingLemmas.{fields_so, fields_refused, counts_answered}
-use Rattle.row_reading.proofs.checked.check_before_rows.Goals as goal
+use Rattle.row_reading.proofs.unchecked.check_before_rows.Goals as goal
 
 pub returns-in_err-check_fields-clause-exact : goal.returns-in_err-check_fields-clause-exact
 returns-in_err-check_fields-clause-exact c =

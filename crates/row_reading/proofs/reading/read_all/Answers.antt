@@ -1,0 +1,24 @@
+use Rattle.std.proofs.Common.{List, rules, SFits}
+use Rattle.std.specs.Int.{w64}
+use Rattle.std.proofs.lemmas.Int.{to_z-of_z}
+use Rattle.std.proofs.lemmas.Result.{err_from_is_err_and}
+use Rattle.words.specs.Laws.{refused_so}
+use Rattle.row_types.specs.declared.row.Row.{Row}
+use Rattle.stored_rows.specs.Refusal.{is_memory}
+use Rattle.row_reading.proofs.CheckingLemmas.{file_refused, file_given}
+use Rattle.row_reading.proofs.reading.read_all.Goals as goal
+
+pub returns-in_err-rows : goal.returns-in_err-rows
+returns-in_err-rows c =
+    let p = err_from_is_err_and c.from_residual.result c.from_residual.ensures.1 in
+    let e = c.in_err-rows.field-0.0 in
+    let refused = file_refused c.args.bytes.now c.args.columns.now c.args.first c.args.sequence c.args.told e in
+    record { exact = rw (p.1, p.2) (refused_so (is_memory e) refused c.in_err-rows.ensures.exact) }
+
+pub returns : goal.returns
+returns c =
+    let fits : SFits w64 c.args.sequence = search rules in
+    record {
+      exact = file_given (λ (rows : List Row). rows) c.args.bytes.now c.args.columns.now c.args.first c.args.sequence c.args.told _
+          c.read_unchecked.result c.in_ok-rows.ensures.exact (simp to_z-of_z at c.read_unchecked.ensures.exact);
+    }
