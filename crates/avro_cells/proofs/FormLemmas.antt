@@ -1,7 +1,7 @@
 -- A cell that is read by its form is that of the value which is read under the type.
 use Rattle.std.proofs.Common.{◌≡◌, ℕ, zero, suc, List, [], ◌∷◌, Bool, true, false, Option, Ok, Err, Result, refl, sym}
 use Rattle.std.proofs.Common.{ap, ◌∙◌, subst, arith, inl, inr}
-use Rattle.std.specs.Prelude.{◌==◌, ℤ, pos, negsuc, Some, None, slice_get, if◌then◌else◌}
+use Rattle.std.specs.Prelude.{◌==◌, ℤ, pos, negsuc, Some, None, slice_get, is_ok, if◌then◌else◌}
 use Rattle.std.proofs.lemmas.Option.{none-some}
 use Rattle.std.proofs.lemmas.Bool.{cases_Bool, false≢true, le-ltb}
 use Rattle.words.specs.Reading.{◌>>=◌, map_value}
@@ -30,6 +30,11 @@ use Rattle.avro_cells.specs.Form.{form_at}
 
 abbrev Read : Type 0
 Read = Result (Datum × Cursor) DatumRefusal
+
+-- there is a cell where there is a value
+pub ok_cell : (read : Read) → is_ok (as_cell read) ≡ is_ok read
+ok_cell (Ok read) = refl
+ok_cell (Err refusal) = refl
 
 -- the cell of a truth value
 pub flag_cell : (byte : Option ℕ) (at : Cursor) (flag : Bool) (after : Cursor) → flag_at byte at ≡ Ok (datums.Flag flag, after) → as_cell (flag_at byte at) ≡ Ok (cells.Flag flag, after)

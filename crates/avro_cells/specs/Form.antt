@@ -1,6 +1,7 @@
 -- How the cells of a field are read.
 -- Avro 1.11, "Primitive Types", "Unions"; Iceberg spec, "Appendix A: Format-specific Requirements", "Avro".
-use Rattle.std.specs.Prelude.{ℕ, ◌==◌, List, [], ◌∷◌, Option, Some, None, Result, Ok, slice_get, if◌then◌else◌}
+use Rattle.std.specs.Prelude.{◌≡◌, ℕ, ◌==◌, true, List, [], ◌∷◌, Option, Some, None, Result, Ok, is_ok, slice_get}
+use Rattle.std.specs.Prelude.{if◌then◌else◌}
 use Rattle.words.specs.Reading.{◌>>=◌, map_value}
 use Rattle.row_types.specs.declared.cell.Cell.{Cell}
 use Rattle.row_types.specs.declared.cell.Cell.TheVariants as cells
@@ -51,6 +52,12 @@ as_cell read = map_value (λ read. (cell_of (Some read.0), read.1)) read
 -- the cell at a cursor, of the value that is read under the schema
 abbrev pub cell_read : Schema → List ℕ → Cursor → Result (Cell × Cursor) DatumRefusal
 cell_read schema input at = as_cell (datum_at schema input at)
+
+-- there is a cell at a cursor: the value of some type of this form is read there
+pub record IsCellThere (form : Form) (input : List ℕ) (at : Cursor) : Type 0 where
+  pub schema : Schema
+  pub form_is : form_of schema ≡ Some form
+  pub read : is_ok (datum_at schema input at) ≡ true
 
 -- the cell at a cursor, of a primitive type
 abbrev pub primitive_at : Primitive → List ℕ → Cursor → Result (Cell × Cursor) DatumRefusal

@@ -1,17 +1,18 @@
 //! How the cells of a type are read.
 
-ghost use Rattle.std.specs.Prelude.{◌≡◌, ◌≤◌, length, IfOk};
+ghost use Rattle.std.specs.Prelude.{◌≡◌, ◌≤◌, true, length, Ok, IfOk, is_ok};
 ghost use Rattle.words.specs.Reading.{Gives, never};
 ghost use Rattle.schema_tree.specs.declared.schema.Schema.{out-Schema};
 ghost use Rattle.row_types.specs.CellRef.{lent_cell};
 ghost use Rattle.std.specs.declared.option.Option.TheVariants.{Some};
 ghost use Rattle.schema_tree.specs.declared.schema.Schema.{Schema as ASchema};
 ghost use Rattle.avro_cells.specs.Form as spec;
-ghost use Rattle.avro_cells.specs.Form.{null_branch, form_of, primitive_at, form_at, cell_read};
+ghost use Rattle.avro_cells.specs.Form.{null_branch, form_of, primitive_at, form_at, cell_read, IsCellThere};
 
 use crate::kind::{Primitive, is_null, nullable, primitive_of};
 use datum_reading::{
-    Cursor, DatumRefusal, pass_sized, take_choice, take_flag, take_int_at, take_long_at, take_text,
+    Cursor, DatumRefusal, pass_sized, take_choice, take_flag, take_int_at, take_known_text,
+    take_long_at, take_text,
 };
 use row_types::CellRef;
 use schema_tree::Schema;
@@ -37,6 +38,7 @@ pub fn form_of(schema: &Schema) -> Option<Form>
 }
 
 /// The cell at the cursor, borrowed from the input, and the cursor after it. Avro spec, "Unions".
+#[inline(always)]
 pub fn take_cell<'a>(
     form: Form,
     input: &'a [u8],
@@ -56,6 +58,7 @@ pub fn take_cell<'a>(
 }
 
 /// The cell at the cursor, by the form alone.
+#[inline(always)]
 fn take_form<'a>(
     form: Form,
     input: &'a [u8],
@@ -78,6 +81,7 @@ fn take_form<'a>(
 }
 
 /// The same of a primitive type.
+#[inline(always)]
 #[tactic(auto, using(crate::proofs::FormLemmas::cells_read))]
 fn take_primitive<'a>(
     primitive: Primitive,
@@ -111,6 +115,59 @@ fn take_primitive<'a>(
             let (start, after) = pass_sized(input, at)?;
             Ok((CellRef::Bytes(&input[start..after.place]), after))
         }
+    }
+}
+
+/// The same as `take_cell` for a cell that was checked.
+#[inline(always)]
+pub fn take_known_cell<'a>(form: Form, input: &'a [u8], at: Cursor) -> (CellRef<'a>, Cursor)
+    requires start { at.place ≤ length input.now }
+    requires known { IsCellThere form input.now at }
+    // It is the cell of the value that is read under each schema of this form.
+    ensures reads { (schema : ASchema) → spec.form_of schema ≡ Some form
+        → cell_read schema input.now at ≡ Ok (lent_cell result.0, result.1) }
+    ensures within { (at.place ≤ result.1.place) × (result.1.place ≤ length input.now) }
+{
+    take_known_form(form, input, at)
+}
+
+/// The same, by the form alone.
+#[inline(always)]
+fn take_known_form<'a>(form: Form, input: &'a [u8], at: Cursor) -> (CellRef<'a>, Cursor)
+    requires start { at.place ≤ length input.now }
+    requires known { is_ok (form_at form input.now at) ≡ true }
+    ensures exact { form_at form input.now at ≡ Ok (lent_cell result.0, result.1) }
+    ensures within { (at.place ≤ result.1.place) × (result.1.place ≤ length input.now) }
+{
+    let Some(null_branch) = form.null_branch else {
+        return take_known_primitive(form.primitive, input, at);
+    };
+    match take_choice(2, input, at) {
+        Ok((branch, behind)) if branch == null_branch => (CellRef::Null, behind),
+        Ok((_, behind)) => take_known_primitive(form.primitive, input, behind),
+        Err(_) => unreachable!(),
+    }
+}
+
+/// The same of a primitive type.
+#[inline(always)]
+fn take_known_primitive<'a>(
+    primitive: Primitive,
+    input: &'a [u8],
+    at: Cursor,
+) -> (CellRef<'a>, Cursor)
+    requires start { at.place ≤ length input.now }
+    requires known { is_ok (primitive_at primitive input.now at) ≡ true }
+    ensures exact { primitive_at primitive input.now at ≡ Ok (lent_cell result.0, result.1) }
+    ensures within { (at.place ≤ result.1.place) × (result.1.place ≤ length input.now) }
+{
+    if let Primitive::Text = primitive {
+        let (text, after) = take_known_text(input, at);
+        return (CellRef::Text(text), after);
+    }
+    match take_primitive(primitive, input, at) {
+        Ok(taken) => taken,
+        Err(_) => unreachable!(),
     }
 }
 

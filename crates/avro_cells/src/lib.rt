@@ -10,7 +10,7 @@
 mod form;
 mod kind;
 
-pub use form::{Form, form_of, take_cell};
+pub use form::{Form, form_of, take_cell, take_known_cell};
 pub use kind::{
     CellType, Primitive, holds, is_allowed, is_null, kind_of, nullable, optional_type,
     primitive_of, written_type,

@@ -11,3 +11,4 @@ mod SpelledParts
 pub mod SpelledDatum
 mod DatumLaws
 pub mod Compacting
+mod KnownLemmas

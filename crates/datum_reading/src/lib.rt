@@ -21,7 +21,8 @@ mod skipping;
 pub use compact::compacted;
 pub use cursor::Cursor;
 pub use primitive::{
-    pass_raw, pass_sized, take_choice, take_flag, take_int_at, take_long_at, take_text,
+    pass_raw, pass_sized, take_choice, take_flag, take_int_at, take_known_text, take_long_at,
+    take_text,
 };
 pub use reading::{decode, no_prefix, reading_agrees};
 pub use refusal::DatumRefusal;

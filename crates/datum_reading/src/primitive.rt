@@ -1,6 +1,7 @@
 //! Reading what holds no other value: numbers, booleans, bytes and texts.
 
-ghost use Rattle.std.specs.Prelude.{◌≡◌, ◌<◌, ◌≤◌, pos, length, slice_get, slice_range, IfOk};
+ghost use Rattle.std.specs.Prelude.{◌≡◌, ◌<◌, ◌≤◌, true, pos, length, slice_get, slice_range, Ok, IfOk, is_ok};
+ghost use Rattle.std.specs.Str.{is_utf8};
 ghost use Rattle.words.specs.Reading.{Gives, never, map_value};
 ghost use Rattle.avro_wire.specs.Number.{long, int};
 ghost use Rattle.datum_tree.specs.declared.datum.Datum.TheVariants as datums;
@@ -14,6 +15,7 @@ use datum_tree::Datum;
 use std::alloc::Global;
 
 /// What a refused number or length is called.
+#[inline(always)]
 fn refusal_of(refusal: WireRefusal) -> DatumRefusal
     ensures { result ≡ wire_refusal refusal }
 {
@@ -24,6 +26,7 @@ fn refusal_of(refusal: WireRefusal) -> DatumRefusal
 }
 
 /// A cursor at `place`, with as many items as `at` counted.
+#[inline(always)]
 fn moved_to(at: Cursor, place: usize) -> Cursor
     ensures { result ≡ moved at place }
 {
@@ -34,6 +37,7 @@ fn moved_to(at: Cursor, place: usize) -> Cursor
 }
 
 /// The long at the cursor, and the cursor after it. Avro spec, "Primitive Types".
+#[inline(always)]
 #[tactic(auto, unfolding(crate::specs::Reading::number_from))]
 pub fn take_long_at(input: &[u8], at: Cursor) -> Result<(i64, Cursor), DatumRefusal>
     requires { at.place ≤ length input.now }
@@ -48,6 +52,7 @@ pub fn take_long_at(input: &[u8], at: Cursor) -> Result<(i64, Cursor), DatumRefu
 }
 
 /// The int at the cursor, and the cursor after it. Avro spec, "Primitive Types".
+#[inline(always)]
 #[tactic(auto, unfolding(crate::specs::Reading::number_from))]
 pub fn take_int_at(input: &[u8], at: Cursor) -> Result<(i32, Cursor), DatumRefusal>
     requires { at.place ≤ length input.now }
@@ -62,6 +67,7 @@ pub fn take_int_at(input: &[u8], at: Cursor) -> Result<(i32, Cursor), DatumRefus
 }
 
 /// The boolean at the cursor, and the cursor after it. Avro spec, "Primitive Types".
+#[inline(always)]
 pub fn take_flag(input: &[u8], at: Cursor) -> Result<(bool, Cursor), DatumRefusal>
     requires { at.place ≤ length input.now }
     ensures exact { Gives never (λ taken. (datums.Flag taken.0, taken.1)) result
@@ -100,6 +106,7 @@ pub fn pass_raw(size: u64, input: &[u8], at: Cursor) -> Result<Cursor, DatumRefu
 
 /// The bytes at the cursor, which stand after their length: where they start, and the cursor
 /// after them. Avro spec, "Primitive Types".
+#[inline(always)]
 #[tactic(auto, unfolding(crate::specs::Reading::sized_at))]
 pub fn pass_sized(input: &[u8], at: Cursor) -> Result<(usize, Cursor), DatumRefusal>
     requires { at.place ≤ length input.now }
@@ -117,6 +124,7 @@ pub fn pass_sized(input: &[u8], at: Cursor) -> Result<(usize, Cursor), DatumRefu
 
 /// The text at the cursor, borrowed from the input, and the cursor after it. `Utf8` names where its
 /// length begins. Avro spec, "Primitive Types".
+#[inline(always)]
 #[tactic(auto, unfolding(crate::specs::Reading::text_at))]
 pub fn take_text<'a>(input: &'a [u8], at: Cursor) -> Result<(&'a str, Cursor), DatumRefusal>
     requires { at.place ≤ length input.now }
@@ -133,8 +141,32 @@ pub fn take_text<'a>(input: &'a [u8], at: Cursor) -> Result<(&'a str, Cursor), D
     }
 }
 
+/// The same of a text that was checked. Its bytes aren't tested again.
+#[inline(always)]
+pub fn take_known_text<'a>(input: &'a [u8], at: Cursor) -> (&'a str, Cursor)
+    requires start { at.place ≤ length input.now }
+    requires known { is_ok (text_at input.now at) ≡ true }
+    ensures exact { text_at input.now at ≡ Ok (result.0.now, result.1) }
+    ensures within { (at.place < result.1.place) × (result.1.place ≤ length input.now) }
+{
+    match pass_sized(input, at) {
+        Ok((start, after)) => (checked_text(&input[start..after.place]), after),
+        Err(_) => unreachable!(),
+    }
+}
+
+/// The bytes as text, which they are.
+#[inline(always)]
+fn checked_text(bytes: &[u8]) -> &str
+    requires { is_utf8 bytes.now ≡ true }
+    ensures { result.now ≡ bytes.now }
+{
+    unsafe { str::from_utf8_unchecked(bytes) }
+}
+
 /// The place of a union's branch or of an enum's symbol at the cursor, counted from 0, of `count`.
 /// Beside it the cursor after it. Avro spec, "Unions"; "Enums".
+#[inline(always)]
 #[tactic(auto, unfolding(crate::specs::Reading::choice_at))]
 pub fn take_choice(many: usize, input: &[u8], at: Cursor) -> Result<(u32, Cursor), DatumRefusal>
     requires { at.place ≤ length input.now }

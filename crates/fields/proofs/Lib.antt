@@ -8,3 +8,4 @@ pub mod FirstLemmas
 pub mod PassingLemmas
 pub mod AgreeingLaws
 pub mod AlikeLaws
+pub mod OrderLemmas

@@ -97,7 +97,7 @@ pub cells_end : (fields : List Leaf) (all : List CellRef) (place : ℕ) (before 
 cells_end fields all place before at done so_far = ap (λ (cs : List Cell). Ok (cs, at)) (sym so_far ∙ ap (map lent_cell) (take_all place all done))
 
 -- there is a form for each field
-forms_many : (fields : List Leaf) → length (forms_of fields) ≡ length fields
+pub forms_many : (fields : List Leaf) → length (forms_of fields) ≡ length fields
 forms_many [] = refl
 forms_many (field ∷ fields) = ap suc (forms_many fields)
 
@@ -248,6 +248,22 @@ pub leaves_on : (leaves : List Leaf) (i : ℕ) (leaf : Leaf) (before : List Datu
 leaves_on leaves i leaf before input at value after total lt is read so_far =
     sym (by_leaf leaves i leaf before input at lt is ∙ ap (λ r. r >>= λ read. fields_at (leaf_readers (drop (i + 1) leaves)) (before ++ read.0 ∷ []) input read.1) read) ∙ so_far
 
+-- it is not refused
+known_not : {A E : Type 0} (r : Result A E) (e : E) → is_ok r ≡ true → r ≡ Err e → ⊥
+known_not (Ok x) e known is = absurd cc
+known_not (Err d) e known is = absurd cc
+
+-- what is not refused is read
+not_refused : {A E : Type 0} (r : Result A E) → ((e : E) → r ≡ Err e → ⊥) → is_ok r ≡ true
+not_refused (Ok x) holds = refl
+not_refused (Err e) holds = absurd (holds e refl)
+
+-- a field of fields that are read is read
+pub leaf_known : (leaves : List Leaf) (i : ℕ) (leaf : Leaf) (before : List Datum) (input : List ℕ) (at : Cursor) (total : Result (List Datum × Cursor) DatumRefusal) → i < length leaves → leaf ≡ get_or leaves i leaf
+    → fields_at (leaf_readers (drop i leaves)) before input at ≡ total → is_ok total ≡ true → is_ok (datum_at leaf.schema input at) ≡ true
+leaf_known leaves i leaf before input at total lt is so_far known =
+    not_refused (datum_at leaf.schema input at) (λ e refused. known_not total e known (leaf_fails leaves i leaf before input at e total lt is refused so_far))
+
 -- no field is left
 pub leaves_end : (leaves : List Leaf) (i : ℕ) (before : List Datum) (input : List ℕ) (at : Cursor) (total : Result (List Datum × Cursor) DatumRefusal) → length leaves ≤ i → fields_at (leaf_readers (drop i leaves)) before input at ≡ total → total ≡ Ok (before, at)
 unfolding fields_at
@@ -344,11 +360,6 @@ record_fails schema wanted input place e refused = rw (value_fails (opens wanted
 
 -- ---- a record that is known to be right
 
--- it is not refused
-known_not : {A E : Type 0} (r : Result A E) (e : E) → is_ok r ≡ true → r ≡ Err e → ⊥
-known_not (Ok x) e known is = absurd cc
-known_not (Err d) e known is = absurd cc
-
 known_as : (schema : Schema) (wanted : List Wanted) (input : List ℕ) (place : ℕ) (sources : List (Option ℕ)) (all cells : List Cell) (after : Cursor) (nulls : Result (Unit {0}) FieldRefusal) → sources ≡ map (place_in (leaves (opens wanted) (fields_of schema))) wanted
     → value_as (opens wanted) (fields_of schema) (datum_at schema input (start place)) ≡ Ok (all, after) → cells ≡ map (pick all) sources → is_ok (record_at schema wanted input place) ≡ true → check_nulls wanted cells ≡ nulls → record_at schema wanted input place ≡ Ok (cells, after.place)
 known_as schema wanted input place sources all cells after (Ok done) sources_are read cells_are known nulls =
@@ -361,6 +372,31 @@ pub record_known : (schema : Schema) (wanted : List Wanted) (input : List ℕ) (
 record_known schema wanted input place sources all cells after sources_are read cells_are known =
     known_as schema wanted input place sources all cells after (check_nulls wanted cells) sources_are read cells_are known refl
 
--- its value is not refused
-pub known_read : (schema : Schema) (wanted : List Wanted) (input : List ℕ) (place : ℕ) (e : DatumRefusal) → is_ok (record_at schema wanted input place) ≡ true → value_as (opens wanted) (fields_of schema) (datum_at schema input (start place)) ≡ Err e → ⊥
-known_read schema wanted input place e known refused = known_not (record_at schema wanted input place) (datum_refusal e) known (record_fails schema wanted input place e refused)
+-- its value is read
+value_refused : (schema : Schema) (wanted : List Wanted) (input : List ℕ) (place : ℕ) (e : DatumRefusal) → datum_at schema input (start place) ≡ Err e → record_at schema wanted input place ≡ Err (datum_refusal e)
+unfolding record_at
+value_refused schema wanted input place e refused = rw refused refl
+
+pub known_read : (schema : Schema) (wanted : List Wanted) (input : List ℕ) (place : ℕ) → is_ok (record_at schema wanted input place) ≡ true → is_ok (datum_at schema input (start place)) ≡ true
+known_read schema wanted input place known =
+    not_refused (datum_at schema input (start place)) (λ e refused. known_not (record_at schema wanted input place) (datum_refusal e) known (value_refused schema wanted input place e refused))
+
+-- and so are its fields
+ok_seen : {A B E : Type 0} (view : A → B) (r : Result A E) → is_ok (map_value view r) ≡ is_ok r
+ok_seen view (Ok x) = refl
+ok_seen view (Err e) = refl
+
+pub known_fields : (opened : Opens) (schema : Schema) (name : List ℕ) (fields : List Field) (input : List ℕ) (at : Cursor) (all : List Leaf) → schema ≡ schemas.Rec name fields
+    → fields_as all (fields_at (leaf_readers all) [] input at) ≡ fields_as (kept (leaves opened (fields_of schema))) (fields_at (leaf_readers (kept (leaves opened (fields_of schema)))) [] input at)
+    → is_ok (datum_at schema input at) ≡ true → is_ok (fields_at (leaf_readers all) [] input at) ≡ true
+known_fields opened schema name fields input at all is alike known =
+    sym (ok_seen _ (fields_at (leaf_readers all) [] input at)) ∙ ap is_ok (alike ∙ sym (record_as opened schema name fields input at is)) ∙ ok_seen _ (datum_at schema input at) ∙ known
+
+-- a value of a type that holds no cells is null
+pub null_known : (read : Result (Datum × Cursor) DatumRefusal) (after : Cursor) → passed read ≡ Ok after → field_as None read ≡ Ok (cells.Null, after)
+null_known (Ok (value, at)) after is = let same : at ≡ after = cc in ap (λ (c : Cursor). Ok (cells.Null, c)) same
+null_known (Err e) after is = absurd cc
+
+-- a schema without fields has no cells
+pub none_known : (opened : Opens) (fields : List Field) (all : List Cell) (read : Result (Datum × Cursor) DatumRefusal) (after : Cursor) → fields ≡ [] → all ≡ [] → passed read ≡ Ok after → value_as opened fields read ≡ Ok (all, after)
+none_known opened fields all read after none empty is = none_passed opened fields all read (Ok after) none empty is

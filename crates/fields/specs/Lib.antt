@@ -4,3 +4,4 @@ pub mod Wanted
 pub mod AloneLaws
 pub mod Nulls
 pub mod Record
+pub mod Order

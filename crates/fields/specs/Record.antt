@@ -1,6 +1,6 @@
 -- A record, of which some fields are wanted, by a reading and by a relation.
 use Rattle.std.specs.Prelude.{◌≡◌, ℕ, Bool, true, false, List, [], ◌∷◌, length, map, get_or, Option, Some, None}
-use Rattle.std.specs.Prelude.{◌++◌, Result, Ok}
+use Rattle.std.specs.Prelude.{◌++◌, Result, Ok, IfSome}
 use Rattle.std.specs.List.{AllZip}
 use Rattle.words.specs.Reading.{◌>>=◌, map_refusal, map_value}
 use Rattle.words.specs.Parts.{Stand, Took}
@@ -28,6 +28,7 @@ use Rattle.fields.specs.Flat.{Opens, leaves, flat_values}
 use Rattle.fields.specs.Kept.{kept, kept_values, slots, slot_at}
 use Rattle.fields.specs.Wanted.{fields_of, opens, source, wanted_of, check_missing, check_nulls}
 use Rattle.fields.specs.Nulls.{needed_from, with_nulls}
+use Rattle.fields.specs.Order.{AreInOrder}
 
 -- memory ran out, the one free answer
 abbrev pub is_memory : FieldRefusal → Bool
@@ -175,6 +176,7 @@ pub record IsLayout (layout : Layout) : Type 0 where
   pub sources : layout.sources.items
       ≡ map (place_in (leaves (opens layout.wanted.items) (fields_of layout.schema))) layout.wanted.items
   pub needed : layout.needed.items ≡ needed_from layout.wanted.items layout.sources.items 0 (length layout.leaves.items)
+  pub order : IfSome layout.missing (AreInOrder layout.sources.items (length layout.leaves.items))
   pub there : check_missing (leaves (opens layout.wanted.items) (fields_of layout.schema)) layout.wanted.items ≡ Ok tt
 
 -- there is room for a cell of each field that takes bytes, and for each that is wanted

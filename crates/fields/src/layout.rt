@@ -1,9 +1,11 @@
 //! How the records of a schema are read.
 
-ghost use Rattle.std.specs.Prelude.{◌≡◌, length, map, IfOk};
+ghost use Rattle.std.specs.Prelude.{◌≡◌, length, map, replicate, Some, None, IfOk, IfSome};
+ghost use Rattle.std.specs.Bool.{OnTrue};
 ghost use Rattle.words.specs.Reading.{Gives};
 ghost use Rattle.fields.specs.Flat.{leaf_of, leaves};
 ghost use Rattle.fields.specs.Kept.{kept, slot_at};
+ghost use Rattle.fields.specs.Order.{places_from, AreInOrder};
 ghost use Rattle.fields.specs.Nulls.{first_of, is_at, is_needed, needed_from};
 ghost use Rattle.fields.specs.Wanted.{fields_of as fields_in, opens, source as source_in};
 ghost use Rattle.fields.specs.Wanted.{check_missing as missing_in};
@@ -29,6 +31,9 @@ pub struct Layout {
     pub sources: Vec<Option<usize>>,
     /// For each of them the place of the first wanted field that it holds and that is required.
     pub needed: Vec<usize>,
+    /// How many wanted fields no field holds, if these come first and the others stand in the
+    /// order of the fields that take bytes. None: they stand in another order.
+    pub missing: Option<usize>,
 }
 
 /// The layout of the records of the schema. The first required field that the schema has not, in
@@ -48,6 +53,7 @@ pub fn lay_out(alloc: Global, schema: Schema, wanted: Vec<Wanted>) -> Result<Lay
         forms: plan.forms,
         sources: plan.sources,
         needed: plan.needed,
+        missing: plan.missing,
     })
 }
 
@@ -58,6 +64,7 @@ struct Plan {
     forms: Vec<Option<Form>>,
     sources: Vec<Option<usize>>,
     needed: Vec<usize>,
+    missing: Option<usize>,
 }
 
 /// The plan of a layout.
@@ -71,6 +78,8 @@ fn plan_of(alloc: Global, schema: &Schema, wanted: &[Wanted]) -> Result<Plan, Fi
         plan.sources.items ≡ map (place_in (leaves (opens wanted.now) (fields_in schema.now))) wanted.now) }
     ensures needed { IfOk result (λ plan. plan.needed.items
         ≡ needed_from wanted.now plan.sources.items 0 (length plan.leaves.items)) }
+    ensures order { IfOk result (λ plan.
+        IfSome plan.missing (AreInOrder plan.sources.items (length plan.leaves.items))) }
 {
     let all = leaves_of(alloc, fields_of(schema), wanted)?;
     check_missing(&all, wanted)?;
@@ -78,11 +87,13 @@ fn plan_of(alloc: Global, schema: &Schema, wanted: &[Wanted]) -> Result<Plan, Fi
     let leaves = kept_of(alloc, &all)?;
     let forms = forms_of(alloc, &leaves)?;
     let needed = needed_of(alloc, wanted, &sources, leaves.len())?;
+    let missing = missing_of(&sources, leaves.len());
     Ok(Plan {
         leaves,
         forms,
         sources,
         needed,
+        missing,
     })
 }
 
@@ -122,6 +133,52 @@ fn forms_of(alloc: Global, leaves: &Vec<Leaf>) -> Result<Vec<Option<Form>>, Allo
         forms.push(form_of(&leaf.schema))?;
     }
     Ok(forms)
+}
+
+/// How many wanted fields no field holds, if these come first and the others stand in the order of
+/// the `many` fields that take bytes.
+fn missing_of(sources: &[Option<usize>], many: usize) -> Option<usize>
+    ensures { IfSome result (AreInOrder sources.now many) }
+{
+    let missing = sources.len().checked_sub(many)?;
+    if are_none(&sources[..missing]) && are_places(&sources[missing..]) {
+        return Some(missing);
+    }
+    None
+}
+
+/// Whether none of them is a place.
+fn are_none(sources: &[Option<usize>]) -> bool
+    ensures { OnTrue result (sources.now ≡ replicate (length sources.now) None) }
+{
+    for index in 0..sources.len() {
+        if sources[index].is_some() {
+            return false;
+        }
+    }
+    true
+}
+
+/// Whether each is its own place.
+fn are_places(sources: &[Option<usize>]) -> bool
+    ensures { OnTrue result (sources.now ≡ places_from 0 (length sources.now)) }
+{
+    for index in 0..sources.len() {
+        if !is_place(sources[index], index) {
+            return false;
+        }
+    }
+    true
+}
+
+/// Whether it is the place.
+fn is_place(source: Option<usize>, place: usize) -> bool
+    ensures { OnTrue result (source ≡ Some place) }
+{
+    match source {
+        Some(source) => source == place,
+        None => false,
+    }
 }
 
 /// For each of `count` fields the first required field that it holds.

@@ -37,6 +37,7 @@ pub fn pass_record(layout: &Layout, input: &[u8], place: usize) -> Result<usize,
 }
 
 /// Refuses the required field at `place` of what is wanted; after the last one there is none.
+#[inline(always)]
 fn refused_at(wanted: &[Wanted], place: usize) -> Result<(), FieldRefusal>
     ensures { result ≡ refused_at wanted.now place }
 {
@@ -74,6 +75,7 @@ fn pass_all(layout: &Layout, input: &[u8], at: Cursor) -> Result<(usize, Cursor)
 }
 
 /// The place after all wanted fields, if there is none.
+#[inline(always)]
 fn behind_all(wanted: &Vec<Wanted>) -> usize
     ensures { result ≡ length wanted.now.items }
 {
@@ -110,6 +112,7 @@ fn pass_fields(
 }
 
 /// Passes one field, and answers whether it is null.
+#[inline(always)]
 fn pass_field(
     form: Option<Form>,
     schema: &Schema,
@@ -128,6 +131,7 @@ fn pass_field(
 }
 
 /// The first required field that is null, once one field more is read.
+#[inline(always)]
 fn with_null(null: bool, needed: usize, first: usize) -> usize
     ensures { result ≡ with_null null needed first }
 {

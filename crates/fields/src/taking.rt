@@ -1,15 +1,17 @@
 //! One record, borrowed from its bytes.
 
-ghost use Rattle.std.specs.Prelude.{◌≡◌, ◌≤◌, [], ◌∷◌, List, length, map, replicate, true, Ok, IfOk, is_ok};
+ghost use Rattle.std.specs.Prelude.{◌≡◌, ◌≤◌, [], ◌∷◌, List, length, drop, map, replicate, true, Ok, IfOk, is_ok};
 ghost use Rattle.row_types.specs.declared.cell_ref.CellRef.TheVariants.{Null};
 ghost use Rattle.words.specs.Reading.{Gives, never};
 ghost use Rattle.schema_tree.specs.declared.schema.Schema.{Schema as ASchema};
 ghost use Rattle.row_types.specs.CellRef.{lent_cell};
 ghost use Rattle.fields.specs.Flat.{leaf_readers};
 ghost use Rattle.datum_reading.specs.Reading.{fields_at, datum_at};
+ghost use Rattle.datum_reading.specs.Readers.{passed};
 ghost use Rattle.fields.specs.declared.wanted.Wanted.{Wanted as AWanted};
 ghost use Rattle.avro_cells.specs.Form.{form_of};
 ghost use Rattle.fields.specs.Wanted.{fields_of as fields_in, opens, source, check_nulls};
+ghost use Rattle.fields.specs.Order.{AreInOrder};
 ghost use Rattle.fields.specs.Record.{datum_refusal, record_at, forms_of, field_as, fields_as};
 ghost use Rattle.fields.specs.Record.{value_as, pick, RecordAgrees, IsLayout, IsWide};
 
@@ -17,7 +19,7 @@ use crate::layout::Layout;
 use crate::leaf::Leaf;
 use crate::refusal::FieldRefusal;
 use crate::wanted::Wanted;
-use avro_cells::{Form, take_cell};
+use avro_cells::{Form, take_cell, take_known_cell};
 use datum_reading::{Cursor, DatumRefusal, reading_agrees, skip};
 use row_types::CellRef;
 use schema_tree::Schema;
@@ -100,10 +102,10 @@ pub fn take_known_record<'a>(
     ensures within { (place ≤ result) × (result ≤ length input.now) }
 {
     let start = Cursor { place, items: 0 };
-    let after = match take_all(layout, input, start, &mut cells.all) {
-        Ok(after) => after,
-        Err(_) => unreachable!(),
-    };
+    if let Some(missing) = layout.missing {
+        return take_in_order(layout, missing, input, start, &mut cells.wanted).place;
+    }
+    let after = take_known_all(layout, input, start, &mut cells.all);
     arrange(&layout.sources, &cells.all, &mut cells.wanted);
     after.place
 }
@@ -165,6 +167,7 @@ fn take_fields<'a>(
 }
 
 /// Takes the cell of one field.
+#[inline(always)]
 pub fn take_field<'a>(
     form: Option<Form>,
     schema: &Schema,
@@ -184,6 +187,123 @@ pub fn take_field<'a>(
             let after = skip(schema, input, at)?;
             Ok((CellRef::Null, after))
         }
+    }
+}
+
+/// Takes the record, which was checked, into the cells that are wanted, of which it has all but the
+/// first `missing` in its order.
+fn take_in_order<'a>(
+    layout: &Layout,
+    missing: usize,
+    input: &'a [u8],
+    at: Cursor,
+    wanted: &mut [CellRef<'a>],
+) -> Cursor
+    requires layout { IsLayout layout.now }
+    requires order { AreInOrder layout.now.sources.items (length layout.now.leaves.items) missing }
+    requires width { length wanted.old ≡ length layout.now.sources.items }
+    requires start { at.place ≤ length input.now }
+    requires known { is_ok (datum_at layout.now.schema input.now at) ≡ true }
+    ensures exact { value_as (opens layout.now.wanted.items) (fields_in layout.now.schema)
+        (datum_at layout.now.schema input.now at)
+        ≡ Ok (map lent_cell (drop missing wanted.new), result) }
+    ensures arranged { map lent_cell wanted.new
+        ≡ map (pick (map lent_cell (drop missing wanted.new))) layout.now.sources.items }
+    ensures width { length wanted.new ≡ length wanted.old }
+    ensures within { (at.place ≤ result.place) × (result.place ≤ length input.now) }
+{
+    clear(&mut wanted[..missing]);
+    take_known_all(layout, input, at, &mut wanted[missing..])
+}
+
+/// Makes all of them null.
+fn clear(cells: &mut [CellRef<'_>])
+    ensures { cells.new ≡ replicate (length cells.old) Null }
+{
+    for place in 0..cells.len() {
+        cells[place] = CellRef::Null;
+    }
+}
+
+/// The same as `take_all` for a record that was checked.
+fn take_known_all<'a>(
+    layout: &Layout,
+    input: &'a [u8],
+    at: Cursor,
+    all: &mut [CellRef<'a>],
+) -> Cursor
+    requires layout { IsLayout layout.now }
+    requires width { length all.old ≡ length layout.now.forms.items }
+    requires start { at.place ≤ length input.now }
+    requires known { is_ok (datum_at layout.now.schema input.now at) ≡ true }
+    ensures exact { value_as (opens layout.now.wanted.items) (fields_in layout.now.schema)
+        (datum_at layout.now.schema input.now at) ≡ Ok (map lent_cell all.new, result) }
+    ensures width { length all.new ≡ length all.old }
+    ensures within { (at.place ≤ result.place) × (result.place ≤ length input.now) }
+{
+    match &layout.schema {
+        Schema::Rec { .. } => take_known_fields(&layout.leaves, &layout.forms, input, at, all),
+        schema => skip_known(schema, input, at),
+    }
+}
+
+/// The same as `take_fields` for fields that were checked.
+fn take_known_fields<'a>(
+    leaves: &[Leaf],
+    forms: &[Option<Form>],
+    input: &'a [u8],
+    at: Cursor,
+    all: &mut [CellRef<'a>],
+) -> Cursor
+    requires forms { forms.now ≡ forms_of leaves.now }
+    requires width { length all.old ≡ length forms.now }
+    requires start { at.place ≤ length input.now }
+    requires known { is_ok (fields_at (leaf_readers leaves.now) [] input.now at) ≡ true }
+    ensures exact { fields_as leaves.now (fields_at (leaf_readers leaves.now) [] input.now at)
+        ≡ Ok (map lent_cell all.new, result) }
+    ensures width { length all.new ≡ length all.old }
+    ensures within { (at.place ≤ result.place) × (result.place ≤ length input.now) }
+{
+    let mut at = at;
+    for place in 0..leaves.len() {
+        let (cell, after) = take_known_field(forms[place], &leaves[place].schema, input, at);
+        all[place] = cell;
+        at = after;
+    }
+    at
+}
+
+/// The same as `take_field` for a field that was checked.
+#[inline(always)]
+fn take_known_field<'a>(
+    form: Option<Form>,
+    schema: &Schema,
+    input: &'a [u8],
+    at: Cursor,
+) -> (CellRef<'a>, Cursor)
+    requires form { form ≡ form_of schema.now }
+    requires start { at.place ≤ length input.now }
+    requires known { is_ok (datum_at schema.now input.now at) ≡ true }
+    ensures exact { field_as form (datum_at schema.now input.now at)
+        ≡ Ok (lent_cell result.0, result.1) }
+    ensures within { (at.place ≤ result.1.place) × (result.1.place ≤ length input.now) }
+{
+    match form {
+        Some(form) => take_known_cell(form, input, at),
+        None => (CellRef::Null, skip_known(schema, input, at)),
+    }
+}
+
+/// Where a value ends that was checked.
+fn skip_known(schema: &Schema, input: &[u8], at: Cursor) -> Cursor
+    requires start { at.place ≤ length input.now }
+    requires known { is_ok (datum_at schema.now input.now at) ≡ true }
+    ensures exact { passed (datum_at schema.now input.now at) ≡ Ok result }
+    ensures within { (at.place ≤ result.place) × (result.place ≤ length input.now) }
+{
+    match skip(schema, input, at) {
+        Ok(after) => after,
+        Err(_) => unreachable!(),
     }
 }
 

@@ -13,6 +13,8 @@ use Rattle.row_pred.specs.Cells.{spaced_text, cells_text}
 use Rattle.row_types.specs.declared.cell_ref.CellRef.{CellRef}
 use Rattle.row_types.specs.CellRef.{lent_cell}
 use Rattle.lineage_cli.specs.Output.{AppendsFront}
+use Rattle.cell_text.specs.Cell.{cell_text, most_bytes}
+use Rattle.lineage_cli.specs.RowLine.{most_cells}
 use Rattle.pieces.specs.Literal.{escape}
 use Rattle.lineage_cli.specs.declared.output.Form.{Form}
 use Rattle.lineage_cli.specs.declared.output.Form.TheVariants.{Escaped, Digits}
@@ -76,6 +78,30 @@ cells_next cells at none lt = ap (λ (l : List CellRef). flat_map spaced_text (m
 -- no cell is left
 pub cells_end : (cells : List CellRef) (at : ℕ) → length cells ≤ at → flat_map spaced_text (map lent_cell (drop at cells)) ≡ []
 cells_end cells at le = ap (λ (l : List CellRef). flat_map spaced_text (map lent_cell l)) (drop_all at cells le)
+
+-- a cell is put, with a space before it, and those behind it are still to put
+pub cell_put : (cells : List CellRef) (at : ℕ) (none : CellRef) (before mid after total : List ℕ) → at < length cells
+    → before ++ flat_map spaced_text (map lent_cell (drop at cells)) ≡ total → mid ≡ before ++ 32 ∷ [] → after ≡ mid ++ cell_text (lent_cell (get_or cells at none))
+    → after ++ flat_map spaced_text (map lent_cell (drop (at + 1) cells)) ≡ total
+cell_put cells at none before mid after total lt so_far space put =
+    let text = cell_text (lent_cell (get_or cells at none)) in
+    let rest = flat_map spaced_text (map lent_cell (drop (at + 1) cells)) in
+    ap (λ (l : List ℕ). l ++ rest) (put ∙ ap (λ (l : List ℕ). l ++ text) space)
+    ∙ (append_assoc (before ++ 32 ∷ []) text rest ∙ (append_assoc before (32 ∷ []) (text ++ rest)
+    ∙ (ap (λ (l : List ℕ). before ++ l) (sym (cells_next cells at none lt)) ∙ so_far)))
+
+-- all cells were put
+pub cells_put : (cells : List CellRef) (at : ℕ) (now total : List ℕ) → length cells ≤ at → now ++ flat_map spaced_text (map lent_cell (drop at cells)) ≡ total → now ≡ total
+cells_put cells at now total le so_far = sym (append-nil now) ∙ (ap (λ (l : List ℕ). now ++ l) (sym (cells_end cells at le)) ∙ so_far)
+
+-- how many bytes a cell and those behind it take at most
+pub most_next : (cells : List CellRef) (at : ℕ) (none : CellRef) → at < length cells
+    → most_cells (map lent_cell (drop at cells)) ≡ most_bytes (lent_cell (get_or cells at none)) + 1 + most_cells (map lent_cell (drop (at + 1) cells))
+most_next cells at none lt = ap (λ (l : List CellRef). most_cells (map lent_cell l)) (drop_more cells at none lt)
+
+-- none are left
+pub most_end : (cells : List CellRef) (at : ℕ) → length cells ≤ at → most_cells (map lent_cell (drop at cells)) ≡ 0
+most_end cells at le = ap (λ (l : List CellRef). most_cells (map lent_cell l)) (drop_all at cells le)
 
 -- ---- row by row
 

@@ -2,6 +2,7 @@ pub mod Command
 pub mod Output
 pub mod Input
 pub mod Rows
+pub mod RowLine
 pub mod Text
 pub mod Class
 pub mod Ending

@@ -8,6 +8,7 @@
 //! | `rows` | answering with the rows of a data file |
 //! | `audit` | answering whether the history of a report is legal |
 //! | `printing` | printing rows, one line each |
+//! | `row_line` | the line of a row, put into a slice |
 //! | `ending`, `class` | the status and the line of a run that doesn't answer |
 //! | `line` | writing the text of a refusal to a sink |
 #![tactic(auto)]
@@ -20,6 +21,7 @@ mod input;
 mod line;
 mod output;
 mod printing;
+mod row_line;
 mod rows;
 mod run;
 

@@ -1,16 +1,19 @@
 //! Writing text to a sink: whole pieces, and through one buffer.
 
-ghost use Rattle.std.specs.Prelude.{◌≡◌, ◌+◌, ◌*◌, ◌≤◌, ℕ, List, [], ◌++◌, length, take};
+ghost use Rattle.std.specs.Prelude.{◌≡◌, ◌+◌, ◌*◌, ◌≤◌, ℕ, List, [], ◌++◌, length, map, take};
 ghost use Rattle.std.specs.Prelude.{IfOk, OnOk, IsErrOf};
 ghost use Rattle.std.specs.Fmt.{signed_decimal};
 ghost use Rattle.lt_port.specs.Faults.{HasCause};
 ghost use Rattle.cell_text.specs.Cell.{cell_text, most_bytes as most_bytes_of};
 ghost use Rattle.row_types.specs.CellRef.{lent_cell};
 ghost use Rattle.lineage_cli.specs.Output.{Puts, Shows};
-ghost use Rattle.lineage_cli.specs.Text.{part_text};
+ghost use Rattle.pieces.specs.Number.{optional_text};
+ghost use Rattle.lineage_cli.specs.RowLine.{most_line};
+ghost use Rattle.lineage_cli.specs.Text.{spaced, row_line, part_text};
 
 use crate::input::zeros;
-use cell_text::{put_cell, put_digits, put_escaped, put_number, put_piece};
+use crate::row_line::{FRONT_BYTES, put_front, put_line};
+use cell_text::{put_cell, put_digits, put_escaped, put_piece};
 use lt_port::{PortError, Sink};
 use row_types::CellRef;
 use std::alloc::{AllocError, Global};
@@ -64,14 +67,31 @@ impl Buffer {
         self.used = put_piece(&mut self.room, self.used, piece);
     }
 
-    /// Appends the number in decimal to what waits.
+    /// How many bytes more may wait.
     #[inline(always)]
-    pub fn push_number(&mut self, number: i64)
-        requires fits { length self.old + 20 ≤ BUFFER_BYTES }
-        ensures put { self.new ≡ self.old ++ signed_decimal number }
-        ensures within { length self.new ≤ length self.old + 20 }
+    pub fn room(&self) -> usize
+        ensures { length self.now + result ≡ BUFFER_BYTES }
     {
-        self.used = put_number(&mut self.room, self.used, number);
+        BUFFER_BYTES - self.used
+    }
+
+    /// Appends the line of a row to what waits.
+    #[inline(always)]
+    pub fn push_line(&mut self, id: Option<i64>, last: i64, cells: &[CellRef<'_>])
+        requires fits { length self.old + most_line (map lent_cell cells.now) ≤ BUFFER_BYTES }
+        ensures put { self.new ≡ self.old
+            ++ row_line (record { id = id; last = last; cells = map lent_cell cells.now }) }
+    {
+        self.used = put_line(&mut self.room, self.used, id, last, cells);
+    }
+
+    /// Appends what comes before the cells of a row to what waits.
+    pub fn push_front(&mut self, id: Option<i64>, last: i64)
+        requires fits { length self.old + FRONT_BYTES ≤ BUFFER_BYTES }
+        ensures put { self.new ≡ self.old
+            ++ (spaced (optional_text id) ++ spaced (signed_decimal last)) }
+    {
+        self.used = put_front(&mut self.room, self.used, id, last);
     }
 
     /// Appends the cell to what waits.

@@ -14,14 +14,12 @@ ghost use Rattle.lineage_cli.specs.Output.{Puts, Shows};
 ghost use Rattle.lineage_cli.specs.Text.{spaced, part_text, row_line, lines};
 
 use crate::output::{BUFFER_BYTES, Buffer, Form, flush, make_room, put};
+use crate::row_line::{FRONT_BYTES, line_fits};
 use cell_text::most_bytes;
 use lt_port::{PortError, Sink};
 use row_reading::CheckedRows;
 use row_types::CellRef;
 use std::alloc::Global;
-
-/// How many bytes stand before the cells of a row at most: two numbers, each with a space.
-const FRONT_BYTES: usize = 42;
 
 /// How many bytes of a long cell are put at a time.
 const PART_BYTES: usize = 16_384;
@@ -100,6 +98,25 @@ fn put_row<W: Sink>(
     ensures cause { HasCause (W.faults out.old) (W.faults out.new)
         (IsErrOf result PortError.Failed) }
 {
+    if line_fits(rows.cells(), buffer.room()) {
+        buffer.push_line(rows.id(), rows.last(), rows.cells());
+        return Ok(());
+    }
+    put_piece_by_piece(out, buffer, rows)
+}
+
+/// The same, piece by piece: what waits is written where there is no room for the next one.
+#[inline(never)]
+fn put_piece_by_piece<W: Sink>(
+    out: &mut W,
+    buffer: &mut Buffer,
+    rows: &CheckedRows<'_>,
+) -> Result<(), PortError>
+    ensures text { Shows (W.written out.old) buffer.old
+        (W.written out.new) buffer.new result (row_line rows.now.row) }
+    ensures cause { HasCause (W.faults out.old) (W.faults out.new)
+        (IsErrOf result PortError.Failed) }
+{
     put_front(out, buffer, rows.id(), rows.last())?;
     put_cells(out, buffer, rows.cells())?;
     put(out, buffer, b"\n")
@@ -119,33 +136,8 @@ fn put_front<W: Sink>(
         (IsErrOf result PortError.Failed) }
 {
     make_room(out, buffer, FRONT_BYTES)?;
-    push_front(buffer, id, last);
+    buffer.push_front(id, last);
     Ok(())
-}
-
-/// Puts the same into room that was made for it.
-fn push_front(buffer: &mut Buffer, id: Option<i64>, last: i64)
-    requires fits { length buffer.old + FRONT_BYTES ≤ BUFFER_BYTES }
-    ensures put { buffer.new ≡ buffer.old
-        ++ (spaced (optional_text id) ++ spaced (signed_decimal last)) }
-{
-    push_id(buffer, id);
-    buffer.push(b" ");
-    buffer.push_number(last);
-    buffer.push(b" ");
-}
-
-/// Puts the id, or `-` if there is none.
-#[inline(always)]
-fn push_id(buffer: &mut Buffer, id: Option<i64>)
-    requires fits { length buffer.old + 20 ≤ BUFFER_BYTES }
-    ensures put { buffer.new ≡ buffer.old ++ optional_text id }
-    ensures within { length buffer.new ≤ length buffer.old + 20 }
-{
-    match id {
-        None => buffer.push(b"-"),
-        Some(id) => buffer.push_number(id),
-    }
 }
 
 /// Puts the cells, with a space between each two.
@@ -186,7 +178,6 @@ fn put_others<W: Sink>(
 }
 
 /// Puts what comes before the cell, which is a space or nothing, and the cell.
-#[inline(always)]
 fn put_cell<W: Sink>(
     out: &mut W,
     buffer: &mut Buffer,

@@ -12,5 +12,5 @@ returns-then-input-place-lt128-clause-exact c =
     let here : byte ≡ get_or input (place + 0) 0 = ap (λ (n : ℕ). get_or input n 0) (omega arith) in
     let value : 0 + (byte % 128) * 2 ^ (7 * 0) ≡ c.from.result = omega (arith, c.from.ensures, c.if-input-place-lt128.true) in
     let read = ends_well bounds input place 0 0 byte (none_read (drop place input)) (omega (arith, c.requires.most)) (omega (arith, c.if-place-input.true)) here
-        c.if-input-place-lt128.true (omega (arith, c.if-input-place-lt128.true, c.requires.largest)) in
+    c.if-input-place-lt128.true (omega (arith, c.if-input-place-lt128.true, c.requires.largest)) in
     read ∙ ap₂ (λ (a b : ℕ). Ok (a, b)) value (omega arith)

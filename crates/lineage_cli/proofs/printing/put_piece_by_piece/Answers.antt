@@ -6,7 +6,7 @@ use Rattle.row_pred.specs.Cells.{cells_text}
 use Rattle.lineage_cli.specs.Output.{AppendsFront, Shows, shown}
 use Rattle.lineage_cli.proofs.OutputLemmas.{begins_then, begins_more, shows_then}
 use Rattle.lineage_cli.proofs.PrintLemmas.{front_text, line_of}
-use Rattle.lineage_cli.proofs.printing.put_row.Goals as goal
+use Rattle.lineage_cli.proofs.printing.put_piece_by_piece.Goals as goal
 
 pub returns-in_err-put_front-clause-text : goal.returns-in_err-put_front-clause-text
 returns-in_err-put_front-clause-text g c =
