@@ -1,18 +1,13 @@
--- Entries audited one by one, and which histories an audit finds.
-use Rattle.std.proofs.Common.{◌≡◌, ℕ, ◌+◌, ◌<◌, ◌≤◌, Bool, true, false, List, [], ◌∷◌, length, get_or, drop, Result}
-use Rattle.std.proofs.Common.{Ok, Err, refl, sym, ap, ◌∙◌}
-use Rattle.std.specs.Prelude.{if◌then◌else◌, IfOk}
-use Rattle.std.specs.declared.option.Option.{Option}
-use Rattle.std.specs.declared.option.Option.TheVariants.{None, Some}
+-- Entries audited one by one, and what an answer of the audit says.
+use Rattle.std.proofs.Common.{◌≡◌, ◌↔◌, ℕ, ◌+◌, ◌<◌, ◌≤◌, List, length, get_or, drop, Result, Ok, Err, sym, ap, subst, ◌∙◌}
+use Rattle.std.specs.Prelude.{IfOk}
 use Rattle.std.proofs.lemmas.List.{at_drop_more, at_drop_all}
 use Rattle.words.specs.Reading.{◌>>=◌, map_refusal, Gives}
 use Rattle.history_types.specs.declared.entry.Entry.{Entry}
 use Rattle.history_types.specs.declared.state.State.{State}
 use Rattle.lineage_model.specs.declared.rule.Rule.{Rule}
-use Rattle.lineage_model.specs.declared.rule.Rule.TheVariants as rules
-use Rattle.lineage_model.specs.Opening.{is_opening}
-use Rattle.lineage_model.specs.Step.{broken_rule, applied}
-use Rattle.lineage_model.specs.History.{Fault, IsHistory, AreLegal, state_after, stepped, audited_from, audited}
+use Rattle.lineage_model.specs.Step.{broken_rule}
+use Rattle.lineage_model.specs.History.{Fault, IsHistory, IsFirstFault, stepped, audited_from, audited}
 use Rattle.history_log.specs.declared.refusal.HistoryRefusal.{HistoryRefusal}
 use Rattle.history_log.specs.Audit.{illegal, verdict}
 use Rattle.history_log.specs.Refusal.{is_memory}
@@ -51,48 +46,34 @@ pub ends : (entries : List Entry) (place : ℕ) (state : State) (total : Result 
 unfolding audited_from
 ends entries place state total past so_far = ap (map_refusal illegal) (sym so_far ∙ at_drop_all (audited_from (place + 1) state) entries place past)
 
--- ---- an audit finds a state just where there is a legal history to it
+-- ---- what an answer says, from what an audit finds
 
--- a step from which the audit went on is legal
-legal_step : (place : ℕ) (state : State) (entry : Entry) (rule : Option Rule) (rest : State → Result State Fault) (end : State) → (stepped place state entry rule >>= rest) ≡ Ok end → (rule ≡ None) × (rest (applied state entry) ≡ Ok end)
-legal_step place state entry None rest end found = (refl, found)
-legal_step place state entry (Some rule) rest end found = absurd cc
+-- an answer is a state that the audit finds
+pub answers_found : (result : Result State HistoryRefusal) (start : State) (entries : List Entry) → ((end : State) → (audited start entries ≡ Ok end) ↔ IsHistory start entries end)
+    → Gives is_memory (λ (state : State). state) result (verdict start entries) → IfOk result (λ state. IsHistory start entries state)
+answers_found (Ok state) start entries finds given = (finds state).0 (ok_step (audited start entries) state given)
+answers_found (Err refusal) start entries finds given = tt
 
-found_from : (place : ℕ) (state : State) (entries : List Entry) (end : State) → audited_from place state entries ≡ Ok end → AreLegal state entries × (end ≡ state_after state entries)
-unfolding audited_from AreLegal state_after
-found_from place state [] end found =
-    let same : state ≡ end = cc in
-    (tt, sym same)
-found_from place state (entry ∷ entries) end found =
-    let step = legal_step place state entry (broken_rule state entry) (λ after. audited_from (place + 1) after entries) end found in
-    let later = found_from (place + 1) (applied state entry) entries end step.1 in
-    ((step.0, later.0), later.1)
+-- the fault of an entry and a rule
+abbrev fault_of : ℕ → Rule → Fault
+fault_of entry rule = record { entry = entry; rule = rule }
 
-found_only : (place : ℕ) (state : State) (entries : List Entry) → AreLegal state entries → audited_from place state entries ≡ Ok (state_after state entries)
-unfolding audited_from AreLegal state_after
-found_only place state [] legal = refl
-found_only place state (entry ∷ entries) legal = rw legal.0 (found_only (place + 1) (applied state entry) entries legal.1)
+-- a refusal that names a fault is a fault that the audit finds
+err_audit : (found : Result State Fault) (fault : Fault) → map_refusal illegal found ≡ Err (illegal fault) → found ≡ Err fault
+err_audit (Ok state) fault named = absurd cc
+err_audit (Err found) fault named =
+    let entry : found.entry ≡ fault.entry = cc in
+    let rule : found.rule ≡ fault.rule = cc in
+    ap (λ (n : ℕ). Err (fault_of n found.rule)) entry ∙ ap (λ (r : Rule). Err (fault_of fault.entry r)) rule
 
--- an audit that found a state found that the history may begin so
-opened : (opening : Bool) (rest : Result State Fault) (fault : Fault) (end : State) → map_refusal illegal (if opening then rest else Err fault) ≡ Ok end → (opening ≡ true) × (rest ≡ Ok end)
-opened true rest fault end found = (refl, ok_step rest end found)
-opened false rest fault end found = absurd cc
+pub faults_found : (result : Result State HistoryRefusal) (start : State) (entries : List Entry) → ((fault : Fault) → (audited start entries ≡ Err fault) ↔ IsFirstFault start entries fault)
+    → Gives is_memory (λ (state : State). state) result (verdict start entries) → (fault : Fault) → result ≡ Err (illegal fault) → IsFirstFault start entries fault
+faults_found result start entries finds given fault is =
+    let named = subst (λ (r : Result State HistoryRefusal). Gives is_memory (λ (state : State). state) r (verdict start entries)) is given in
+    (finds fault).0 (err_audit (audited start entries) fault named)
 
--- a state that is found
-pub history_found : (start : State) (entries : List Entry) (end : State) → verdict start entries ≡ Ok end → IsHistory start entries end
-unfolding audited
-history_found start entries end found =
-    let parts = opened (is_opening start) (audited_from 1 start entries) (record { entry = 0; rule = rules.Start }) end found in
-    let legal = found_from 1 start entries end parts.1 in
-    record { opening = parts.0; legal = legal.0; state = legal.1 }
-
--- what a legal history leads to is found
-pub history_only : (start : State) (entries : List Entry) (end : State) → IsHistory start entries end → verdict start entries ≡ Ok end
-unfolding audited
-history_only start entries end history =
-    ap (λ (opening : Bool). map_refusal illegal (if opening then audited_from 1 start entries else Err (record { entry = 0; rule = rules.Start }))) history.opening ∙ (ap (map_refusal illegal) (found_only 1 start entries history.legal) ∙ ap Ok (sym history.state))
-
--- so an answer is the state after a legal history
-pub answers_found : (result : Result State HistoryRefusal) (start : State) (entries : List Entry) → Gives is_memory (λ (state : State). state) result (verdict start entries) → IfOk result (λ state. IsHistory start entries state)
-answers_found (Ok state) start entries given = history_found start entries state given
-answers_found (Err refusal) start entries given = tt
+-- what the audit finds is answered
+pub answered : (result : Result State HistoryRefusal) (start : State) (entries : List Entry) (found : Result State Fault) → audited start entries ≡ found
+    → Gives is_memory (λ (state : State). state) result (verdict start entries) → Gives is_memory (λ (state : State). state) result (map_refusal illegal found)
+answered result start entries found is given =
+    subst (λ (read : Result State Fault). Gives is_memory (λ (state : State). state) result (map_refusal illegal read)) is given

@@ -1,10 +1,10 @@
 //! The audit of a whole history.
 
-ghost use Rattle.std.specs.Prelude.{◌≡◌, IfOk, Ok};
+ghost use Rattle.std.specs.Prelude.{◌≡◌, IfOk, Ok, Err};
 ghost use Rattle.words.specs.Reading.{Gives, map_refusal};
 ghost use Rattle.history_types.specs.declared.state.State.{State as AState};
 ghost use Rattle.lineage_model.specs.Step.{broken_rule};
-ghost use Rattle.lineage_model.specs.History.{IsHistory, stepped, audited_from};
+ghost use Rattle.lineage_model.specs.History.{Fault, IsHistory, IsFirstFault, stepped, audited_from};
 ghost use Rattle.history_log.specs.Refusal.{is_memory};
 ghost use Rattle.history_log.specs.Audit.{illegal, verdict};
 
@@ -14,6 +14,7 @@ use crate::rules::broken_rule;
 use crate::step::apply;
 use history_types::{Entries, Entry, State};
 use lineage_model::Rule;
+use lineage_model::laws::an_audit_finds_histories;
 use row_types::Columns;
 use std::alloc::Global;
 
@@ -32,7 +33,15 @@ pub fn audit(
     ensures found { IfOk result (λ state. IsHistory start entries.now state) }
     ensures only { (end : AState) → IsHistory start entries.now end
         → Gives is_memory (λ state. state) result (Ok end) }
+    // A fault is the first one of the history, and each first fault is answered so.
+    ensures illegal { (fault : Fault)
+        → result ≡ Err (HistoryRefusal.Illegal fault.entry fault.rule)
+        → IsFirstFault start entries.now fault }
+    ensures illegal_only { (fault : Fault) → IsFirstFault start entries.now fault
+        → Gives is_memory (λ state. state) result
+        (Err (HistoryRefusal.Illegal fault.entry fault.rule)) }
 {
+    an_audit_finds_histories();
     audited(alloc, start, entries.as_slice())
 }
 

@@ -21,3 +21,5 @@ mod GivenIds
 mod AppendInTwo
 mod Unchanged
 mod Counted
+mod Audited
+mod FirstFaults

@@ -1,6 +1,6 @@
 -- A history of a table: its states, whether it is legal, and the ids that it gives.
-use Rattle.std.specs.Prelude.{◌≡◌, ⊤, ℕ, ◌+◌, ℤ, true, List, [], ◌∷◌, ◌++◌, Option, Some, None, Result, Ok, Err}
-use Rattle.std.specs.Prelude.{if◌then◌else◌, ◌<ℤ◌, ◌≤ℤ◌}
+use Rattle.std.specs.Prelude.{◌≡◌, ◌⊎◌, ⊤, ℕ, ◌+◌, ℤ, true, false, List, [], ◌∷◌, ◌++◌, length, Option, Some, None}
+use Rattle.std.specs.Prelude.{Result, Ok, Err, if◌then◌else◌, ◌<ℤ◌, ◌≤ℤ◌}
 use Rattle.std.specs.List.{flat_map}
 use Rattle.std.specs.Map.{keys_of}
 use Rattle.words.specs.Reading.{◌>>=◌}
@@ -39,6 +39,29 @@ ids_given start entries = keys_of start.rows ++ flat_map ids_given_by entries
 pub record Fault : Type 0 where
   pub entry : ℕ
   pub rule : Rule
+
+-- no history may begin with this state: the fault is entry 0, with the rule Start
+pub record BreaksStart (start : State) (fault : Fault) : Type 0 where
+  pub opening : is_opening start ≡ false
+  pub entry : fault.entry ≡ 0
+  pub rule : fault.rule ≡ rules.Start
+
+-- the entries before this one are a legal history, and in the state after them this one breaks the rule first
+pub record BreaksRule (start : State) (entries : List Entry) (fault : Fault) : Type 0 where
+  pub before : List Entry
+  pub entry : Entry
+  pub others : List Entry
+  pub parts : entries ≡ before ++ entry ∷ others
+  pub place : fault.entry ≡ length before + 1
+  pub state : State
+  pub history : IsHistory start before state
+  pub rule : broken_rule state entry ≡ Some fault.rule
+
+-- the first fault of a history: no history may begin with its start, or an entry breaks a rule
+abbrev pub IsFirstFault : State → List Entry → Fault → Type 0
+IsFirstFault start entries fault = BreaksStart start fault ⊎ BreaksRule start entries fault
+
+-- ---- a history audited from left to right
 
 -- the state after the entry, unless it breaks a rule
 abbrev pub stepped : ℕ → State → Entry → Option Rule → Result State Fault

@@ -1,6 +1,6 @@
-//! What follows for every legal history. Each law is the contract of a function that does nothing.
+//! What follows from the definitions. Each law is the contract of a function that does nothing.
 
-ghost use Rattle.std.specs.Prelude.{◌≡◌, ◌≢◌, ℕ, ℤ, true, All, List, [], ◌++◌, length, map, Some, None};
+ghost use Rattle.std.specs.Prelude.{◌≡◌, ◌≢◌, ◌↔◌, ℕ, ℤ, true, All, List, [], ◌++◌, length, map, Some, None, Ok, Err};
 ghost use Rattle.std.specs.List.{AllPairs, slice_get};
 ghost use Rattle.row_types.specs.RowMap.{UnnamedRow, row_at};
 ghost use Rattle.row_types.specs.declared.cell.Cell.{Cell};
@@ -12,7 +12,7 @@ ghost use Rattle.lineage_model.specs.Rows.{stamped};
 ghost use Rattle.lineage_model.specs.Opening.{is_opening};
 ghost use Rattle.lineage_model.specs.Step.{gives_ids, ids_given_by, LegalStep, broken_rule, applied};
 ghost use Rattle.lineage_model.specs.Tally.{tally_of, rule_broken, counted};
-ghost use Rattle.lineage_model.specs.History.{IsHistory, AreLegal, state_after, ids_given, IsBelow, DidNotFall, IsAppend, IsCompaction, IsUpgrade};
+ghost use Rattle.lineage_model.specs.History.{IsHistory, AreLegal, state_after, ids_given, Fault, IsFirstFault, audited, IsBelow, DidNotFall, IsAppend, IsCompaction, IsUpgrade};
 
 use history_types::{Entries, Entry, State};
 
@@ -125,4 +125,13 @@ pub fn numbers_are_enough()
     ensures opening { (state : AState) (entry : AEntry) → is_opening state ≡ true
         → broken_rule state entry ≡ None
         → is_opening (applied state entry) ≡ true }
+{}
+
+/// An audit by the definition `audited` ends with a state exactly if the entries are a legal history
+/// to that state, and with a fault exactly if that is the first fault of the history.
+pub fn an_audit_finds_histories()
+    ensures legal { (start : AState) (entries : List AEntry) (end : AState)
+        → (audited start entries ≡ Ok end) ↔ IsHistory start entries end }
+    ensures illegal { (start : AState) (entries : List AEntry) (fault : Fault)
+        → (audited start entries ≡ Err fault) ↔ IsFirstFault start entries fault }
 {}

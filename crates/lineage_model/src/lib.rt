@@ -7,7 +7,7 @@
 //! |---|---|
 //! | `rule` | the rules that a step can break |
 //! | `tally` | the numbers of a state |
-//! | `laws` | what follows for every legal history |
+//! | `laws` | what follows from the definitions |
 #![tactic(auto)]
 
 pub mod laws;
