@@ -1,6 +1,6 @@
 //! The text of a cell as a part of a string.
 
-ghost use Rattle.std.specs.Prelude.{◌≡◌, ◌≤◌, ◌++◌, length, IfOk, OnOk};
+ghost use Rattle.std.specs.Prelude.{◌≡◌, ◌≤◌, ◌++◌, length, IfOk, OnOk, OnErr};
 ghost use Rattle.std.specs.Fmt.{signed_decimal};
 ghost use Rattle.std.specs.Str.{IsUtf8};
 ghost use Rattle.std.specs.String.{string_bytes};
@@ -12,10 +12,12 @@ use crate::cell::{most_bytes, put_cell};
 use row_types::CellRef;
 use std::alloc::{AllocError, Global};
 
-/// Appends the text of the cell to `out`. An `Err` says that memory ran out.
+/// Appends the text of the cell to `out`. An `Err` says that memory ran out, and leaves `out` as it
+/// was.
 pub fn push_cell(out: &mut String, cell: CellRef<'_>) -> Result<(), AllocError>
-    ensures { OnOk result (string_bytes out.new
+    ensures ok { OnOk result (string_bytes out.new
         ≡ string_bytes out.old ++ cell_text (lent_cell cell.entry)) }
+    ensures unchanged { OnErr result (string_bytes out.new ≡ string_bytes out.old) }
 {
     let mut room = zeros(*out.allocator(), most_bytes(cell))?;
     push_by(out, &mut room, cell)
@@ -31,8 +33,9 @@ fn zeros(alloc: Global, count: usize) -> Result<Vec<u8>, AllocError>
 /// The same, by bytes that have room for the text.
 fn push_by(out: &mut String, room: &mut [u8], cell: CellRef<'_>) -> Result<(), AllocError>
     requires fits { most_bytes_of (lent_cell cell) ≤ length room.old }
-    ensures { OnOk result (string_bytes out.new
+    ensures ok { OnOk result (string_bytes out.new
         ≡ string_bytes out.old ++ cell_text (lent_cell cell.entry)) }
+    ensures unchanged { OnErr result (string_bytes out.new ≡ string_bytes out.old) }
 {
     let end = put_cell(room, 0, cell);
     cell_is_utf8(cell);

@@ -1,6 +1,6 @@
 //! Texts between quotes.
 
-ghost use Rattle.std.specs.Prelude.{◌≡◌, ◌+◌, ◌<◌, ◌≤◌, ℕ, List, [], ◌∷◌, ◌++◌, Ok, Err, Some, None, true, false, length, drop, slice_index, slice_range, IfOk, OnOk, IfSome, MatchOption, MatchResult};
+ghost use Rattle.std.specs.Prelude.{◌≡◌, ◌+◌, ◌<◌, ◌≤◌, ℕ, List, [], ◌∷◌, ◌++◌, Ok, Err, Some, None, true, false, length, drop, slice_index, slice_range, IfOk, OnOk, OnErr, IfSome, MatchOption, MatchResult};
 ghost use Rattle.std.specs.List.{flat_map};
 ghost use Rattle.std.specs.Str.{IsCharBoundary};
 ghost use Rattle.std.specs.String.{string_bytes};
@@ -27,13 +27,17 @@ pub fn take_literal(alloc: Global, text: &str, place: usize) -> Result<(Text, us
     Ok((Text::from_string(content), after))
 }
 
-/// Appends the text between quotes to `out`. An `Err` says that memory ran out.
+/// Appends the text between quotes to `out`. An `Err` says that memory ran out, and leaves `out` as
+/// it was.
 pub fn put_literal(out: &mut String, text: &str) -> Result<(), AllocError>
-    ensures { OnOk result (string_bytes out.new ≡ string_bytes out.old ++ literal_text text.now) }
+    ensures ok { OnOk result
+        (string_bytes out.new ≡ string_bytes out.old ++ literal_text text.now) }
+    ensures unchanged { OnErr result (string_bytes out.new ≡ string_bytes out.old) }
 {
-    out.push_str("\"")?;
-    put_escaped(out, text)?;
-    out.push_str("\"")
+    // The literal is whole before it is appended, so that a failure appends no part of it.
+    let mut literal = String::new(*out.allocator());
+    put_quoted(&mut literal, text)?;
+    out.push_str(literal.as_str())
 }
 
 /// The refusal of what stops at `place`.
@@ -152,6 +156,15 @@ fn unescaped(byte: u8) -> Option<char>
         b't' => Some('\t'),
         _ => None,
     }
+}
+
+/// Puts the text between quotes. An `Err` may leave a part of it.
+fn put_quoted(out: &mut String, text: &str) -> Result<(), AllocError>
+    ensures { OnOk result (string_bytes out.new ≡ string_bytes out.old ++ literal_text text.now) }
+{
+    out.push_str("\"")?;
+    put_escaped(out, text)?;
+    out.push_str("\"")
 }
 
 /// Puts the text as it is in a literal, without the quotes.

@@ -1,6 +1,6 @@
 //! Numbers in decimal.
 
-ghost use Rattle.std.specs.Prelude.{◌≡◌, true, pos, ℕ, ◌+◌, ◌-◌, ◌*◌, ◌^◌, ◌≤◌, ◌≤ℤ◌, List, ◌++◌, length, drop, slice_get, Some, None, nat_lt, if◌then◌else◌, IfOk, OnOk};
+ghost use Rattle.std.specs.Prelude.{◌≡◌, true, pos, ℕ, ◌+◌, ◌-◌, ◌*◌, ◌^◌, ◌≤◌, ◌≤ℤ◌, List, ◌++◌, length, drop, slice_get, Some, None, nat_lt, if◌then◌else◌, IfOk, OnOk, OnErr};
 ghost use Rattle.std.specs.Fmt.{decimal, signed_decimal};
 ghost use Rattle.std.specs.String.{string_bytes};
 ghost use Rattle.pieces.specs.Number.{is_digit, digits, digits_from, begins, positive_at, natural_at, negative, value_of, after_of, signed_as, signed_at, no_more, unsigned_at, count_at, long_at, any_number_at, is_absent, optional_long_at, optional_text};
@@ -138,23 +138,27 @@ pub fn is_absent(bytes: &[u8], place: usize) -> bool
     stands(bytes, place, b'-') && !begins_there(bytes, place + 1)
 }
 
-/// Appends the number to `out`.
+/// Appends the number to `out`. An `Err` says that memory ran out, and leaves `out` as it was.
 pub fn put_long(out: &mut String, number: i64) -> Result<(), AllocError>
-    ensures { OnOk result (string_bytes out.new ≡ string_bytes out.old ++ signed_decimal number) }
+    ensures ok { OnOk result (string_bytes out.new ≡ string_bytes out.old ++ signed_decimal number) }
+    ensures unchanged { OnErr result (string_bytes out.new ≡ string_bytes out.old) }
 {
     out.push_str(Buffer::new().format(number))
 }
 
-/// Appends the number to `out`.
+/// Appends the number to `out`. An `Err` says that memory ran out, and leaves `out` as it was.
 pub fn put_unsigned(out: &mut String, number: u64) -> Result<(), AllocError>
-    ensures { OnOk result (string_bytes out.new ≡ string_bytes out.old ++ decimal number) }
+    ensures ok { OnOk result (string_bytes out.new ≡ string_bytes out.old ++ decimal number) }
+    ensures unchanged { OnErr result (string_bytes out.new ≡ string_bytes out.old) }
 {
     out.push_str(Buffer::new().format(number))
 }
 
-/// Appends the number to `out`, or a minus sign if there is none.
+/// Appends the number to `out`, or a minus sign if there is none. An `Err` says that memory ran
+/// out, and leaves `out` as it was.
 pub fn put_optional_long(out: &mut String, number: Option<i64>) -> Result<(), AllocError>
-    ensures { OnOk result (string_bytes out.new ≡ string_bytes out.old ++ optional_text number) }
+    ensures ok { OnOk result (string_bytes out.new ≡ string_bytes out.old ++ optional_text number) }
+    ensures unchanged { OnErr result (string_bytes out.new ≡ string_bytes out.old) }
 {
     match number {
         Some(number) => put_long(out, number),
