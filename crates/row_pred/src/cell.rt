@@ -1,6 +1,6 @@
 //! One cell.
 
-ghost use Rattle.std.specs.Prelude.{◌≡◌, ◌≤◌, ◌++◌, length, slice_get, Some, IfOk, OnOk};
+ghost use Rattle.std.specs.Prelude.{◌≡◌, ◌≤◌, ◌++◌, length, slice_get, Some, IfOk, OnOk, OnErr};
 ghost use Rattle.std.specs.String.{string_bytes};
 ghost use Rattle.std.specs.Option.{option_map};
 ghost use Rattle.words.specs.Reading.{Gives, map_value};
@@ -39,9 +39,11 @@ pub fn take_cell(
     fitted(column, place, read)
 }
 
-/// Appends the text of the cell to `out`.
+/// Appends the text of the cell to `out`. An `Err` says that memory ran out, and leaves `out` as it
+/// was.
 pub fn put_cell(out: &mut String, cell: &Cell) -> Result<(), AllocError>
-    ensures { OnOk result (string_bytes out.new ≡ string_bytes out.old ++ cell_text cell.now) }
+    ensures ok { OnOk result (string_bytes out.new ≡ string_bytes out.old ++ cell_text cell.now) }
+    ensures unchanged { OnErr result (string_bytes out.new ≡ string_bytes out.old) }
 {
     push_cell(out, cell.lend())
 }

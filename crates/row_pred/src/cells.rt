@@ -1,6 +1,6 @@
 //! The cells of a row.
 
-ghost use Rattle.std.specs.Prelude.{◌≡◌, ◌≤◌, ◌++◌, List, length, IfOk, OnOk, Ok};
+ghost use Rattle.std.specs.Prelude.{◌≡◌, ◌≤◌, ◌++◌, List, length, IfOk, OnOk, OnErr, Ok};
 ghost use Rattle.std.specs.List.{flat_map};
 ghost use Rattle.std.specs.String.{string_bytes};
 ghost use Rattle.words.specs.Reading.{Gives};
@@ -37,7 +37,7 @@ pub fn print_cells(alloc: Global, cells: &Cells) -> Result<Text, AllocError>
         → cells_of columns text ≡ Ok cells.now) }
 {
     let mut out = String::new(alloc);
-    put_cells(&mut out, cells.as_slice())?;
+    put_each(&mut out, cells.as_slice())?;
     Ok(Text::from_string(out))
 }
 
@@ -67,8 +67,20 @@ pub fn take_cells(
     Ok((List::from_vec(cells), at))
 }
 
-/// Appends the text of the cells to `out`.
+/// Appends the text of the cells to `out`. An `Err` says that memory ran out, and leaves `out` as it
+/// was.
 pub fn put_cells(out: &mut String, cells: &[Cell]) -> Result<(), AllocError>
+    ensures ok { OnOk result (string_bytes out.new ≡ string_bytes out.old ++ cells_text cells.now) }
+    ensures unchanged { OnErr result (string_bytes out.new ≡ string_bytes out.old) }
+{
+    // The text is whole before it is appended, so that a failure appends no part of it.
+    let mut text = String::new(*out.allocator());
+    put_each(&mut text, cells)?;
+    out.push_str(text.as_str())
+}
+
+/// Puts the text of the cells one by one. An `Err` may leave some of them.
+fn put_each(out: &mut String, cells: &[Cell]) -> Result<(), AllocError>
     ensures { OnOk result (string_bytes out.new ≡ string_bytes out.old ++ cells_text cells.now) }
 {
     let Some((first, others)) = cells.split_first() else {
