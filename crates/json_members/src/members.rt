@@ -1,6 +1,6 @@
 //! The members of a JSON object.
 
-ghost use Rattle.std.specs.Prelude.{◌≡◌, [], ◌∷◌, option_map, OnOk};
+ghost use Rattle.std.specs.Prelude.{◌≡◌, [], ◌∷◌, option_map, OnOk, OnErr};
 ghost use Rattle.serde_json.specs.Data.{put as with_member};
 ghost use Rattle.serde_json.specs.Find.{get_member};
 ghost use Rattle.serde_json.specs.View.{view, items_view, members_view};
@@ -46,17 +46,21 @@ pub fn take_items(alloc: Global, members: &mut Members, name: &str) -> Vec<Value
     }
 }
 
-/// Puts a member at the name, in place of an older one. An `Err` says that memory ran out.
+/// Puts a member at the name, in place of an older one. An `Err` says that memory ran out, and
+/// leaves the members as they were.
 pub fn put(alloc: Global, members: &mut Members, name: &str, value: Value) -> Result<(), AllocError>
     ensures ok { OnOk result (members_view members.new.entries
         ≡ with_member name.now (view value) (members_view members.old.entries)) }
+    ensures unchanged { OnErr result
+        (members_view members.new.entries ≡ members_view members.old.entries) }
 {
     let key = String::from_str(alloc, name)?;
     members.insert(key, value)?;
     Ok(())
 }
 
-/// Puts a member at the name if there is a value. An `Err` says that memory ran out.
+/// Puts a member at the name if there is a value. An `Err` says that memory ran out, and leaves the
+/// members as they were.
 pub fn put_some(
     alloc: Global,
     members: &mut Members,
@@ -65,6 +69,8 @@ pub fn put_some(
 ) -> Result<(), AllocError>
     ensures ok { OnOk result (members_view members.new.entries
         ≡ with_field name.now (option_map view value) (members_view members.old.entries)) }
+    ensures unchanged { OnErr result
+        (members_view members.new.entries ≡ members_view members.old.entries) }
 {
     match value {
         None => Ok(()),

@@ -4,9 +4,7 @@ use Rattle.serde_json.specs.View.{view, members_view}
 use Rattle.serde_json.proofs.Views.{members_view-insert_entry}
 use Rattle.json_members.proofs.members.put.Goals as goal
 
-pub returns : goal.returns
-returns c = record {
-  ok =
-      ap members_view c.in_ok-insert.ensures.entries ∙ members_view-insert_entry c.args.members.now.entries c.in_ok-key.key c.args.value
-      ∙ ap (λ k. put k (view c.args.value) (members_view c.args.members.now.entries)) c.in_ok-key.ensures.ok;
-}
+pub returns-clause-ok : goal.returns-clause-ok
+returns-clause-ok c =
+    ap members_view c.in_ok-insert.ensures.entries ∙ members_view-insert_entry c.args.members.now.entries c.in_ok-key.key c.args.value
+    ∙ ap (λ k. put k (view c.args.value) (members_view c.args.members.now.entries)) c.in_ok-key.ensures.ok
