@@ -10,7 +10,7 @@ ghost use Rattle.history_log.specs.Entry.{before_gap, entry_of, entry_text};
 ghost use Rattle.history_log.specs.EntryParts.{numbers_text, ids_text, start_at, numbers_at, ids_at};
 
 use crate::refusal::HistoryRefusal;
-use crate::request::{put_request, take_request};
+use crate::request::{put_parts, take_request};
 use crate::runs::{put_runs, take_runs};
 use avro_wire::Text;
 use history_types::{Entry, Runs};
@@ -50,7 +50,7 @@ pub fn print_entry(alloc: Global, entry: &Entry) -> Result<Text, AllocError>
     let mut out = String::new(alloc);
     put_numbers(&mut out, entry)?;
     put_ids(&mut out, entry)?;
-    put_request(&mut out, &entry.request)?;
+    put_parts(&mut out, &entry.request)?;
     Ok(Text::from_string(out))
 }
 

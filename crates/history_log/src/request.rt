@@ -1,6 +1,6 @@
 //! Requests in a text.
 
-ghost use Rattle.std.specs.Prelude.{◌≡◌, ◌<◌, ◌≤◌, ◌++◌, [], false, List, length, IfOk, IfSome, OnOk, Ok};
+ghost use Rattle.std.specs.Prelude.{◌≡◌, ◌<◌, ◌≤◌, ◌++◌, [], false, List, length, IfOk, IfSome, OnOk, OnErr, Ok};
 ghost use Rattle.std.specs.List.{flat_map};
 ghost use Rattle.std.specs.String.{string_bytes};
 ghost use Rattle.words.specs.Reading.{Gives};
@@ -39,7 +39,7 @@ pub fn print_request(alloc: Global, request: &Request) -> Result<Text, AllocErro
         → FitsRequest columns request.now → request_of columns text ≡ Ok request.now) }
 {
     let mut out = String::new(alloc);
-    put_request(&mut out, request)?;
+    put_parts(&mut out, request)?;
     Ok(Text::from_string(out))
 }
 
@@ -60,8 +60,21 @@ pub fn take_request(
     take_behind(alloc, text, after, index, columns.as_slice())
 }
 
-/// Appends the text of the request to `out`.
+/// Appends the text of the request to `out`. An `Err` says that memory ran out, and leaves `out` as
+/// it was.
 pub fn put_request(out: &mut String, request: &Request) -> Result<(), AllocError>
+    ensures ok { OnOk result (string_bytes out.new
+        ≡ string_bytes out.old ++ request_text request.now) }
+    ensures unchanged { OnErr result (string_bytes out.new ≡ string_bytes out.old) }
+{
+    // The text is whole before it is appended, so that a failure appends no part of it.
+    let mut text = String::new(*out.allocator());
+    put_parts(&mut text, request)?;
+    out.push_str(text.as_str())
+}
+
+/// Puts the text of the request part by part. An `Err` may leave some of the parts.
+pub(crate) fn put_parts(out: &mut String, request: &Request) -> Result<(), AllocError>
     ensures { OnOk result (string_bytes out.new
         ≡ string_bytes out.old ++ request_text request.now) }
 {
