@@ -1,6 +1,7 @@
 //! Histories by hand, and what is said of them.
 
-use crate::tables::one_column;
+use crate::rows::all_made;
+use crate::tables::{ONE, columns_of};
 use history_log::{HistoryRefusal, Rule, audit};
 use history_types::{Entries, Entry, Request, Run, Runs, State};
 use lists::List;
@@ -43,11 +44,13 @@ enum Verdict {
     /// The history is legal. Behind it stand the version, how many rows there are with ids and
     /// without, the next id, and the sequence number.
     Legal(u8, usize, usize, Option<i64>, i64),
+    /// The history is legal. The rows behind it have these ids, last changes and numbers.
+    Rows(&'static [(i64, i64, i64)]),
     /// The first entry that breaks a rule, and the first rule that it breaks.
     Broken(u64, Rule),
 }
 
-use Verdict::{Broken, Legal};
+use Verdict::{Broken, Legal, Rows};
 
 /// A history, and what is said of it.
 type Case = (Begin, &'static [Line], Verdict);
@@ -168,6 +171,32 @@ fn audited(
     audit(alloc, columns, start, &entries)
 }
 
+/// Whether the row has this last change, and one cell with this number.
+fn is_row(row: &(i64, Cells), last: i64, number: i64) -> bool {
+    match row.1.get(0) {
+        Some(Cell::Num(found)) => row.0 == last && *found == number && row.1.len() == 1,
+        _ => false,
+    }
+}
+
+/// Whether the rows have these ids, last changes and numbers.
+fn are_rows(rows: &RowMap, wanted: &[(i64, i64, i64)]) -> bool {
+    let mut place = 0;
+    for (id, row) in rows.iter() {
+        if place >= wanted.len() {
+            return false;
+        }
+        if wanted[place].0 != *id {
+            return false;
+        }
+        if !is_row(row, wanted[place].1, wanted[place].2) {
+            return false;
+        }
+        place += 1;
+    }
+    place == wanted.len()
+}
+
 /// Whether the audit says this.
 fn is_said(audited: &Result<State, HistoryRefusal>, verdict: &Verdict) -> bool {
     match (audited, verdict) {
@@ -178,6 +207,7 @@ fn is_said(audited: &Result<State, HistoryRefusal>, verdict: &Verdict) -> bool {
                 && state.next == *next
                 && state.seq == *seq
         }
+        (Ok(state), Rows(wanted)) => are_rows(&state.rows, wanted),
         (Err(HistoryRefusal::Illegal { entry, rule }), Broken(number, broken)) => {
             *entry == *number && *rule == *broken
         }
@@ -186,14 +216,19 @@ fn is_said(audited: &Result<State, HistoryRefusal>, verdict: &Verdict) -> bool {
 }
 
 /// The number of the first history of which something else is said, counted from 0.
-fn first_wrong(alloc: Global, cases: &[Case]) -> Result<Option<usize>, Fail> {
-    let columns = one_column(alloc)?;
+fn first_wrong(alloc: Global, cases: &[Case]) -> Result<Option<usize>, AllocError> {
+    let columns = columns_of(alloc, &ONE)?;
+    Ok(first_wrong_of(alloc, &columns, cases))
+}
+
+/// The same for these columns.
+fn first_wrong_of(alloc: Global, columns: &Columns, cases: &[Case]) -> Option<usize> {
     for number in 0..cases.len() {
-        if !is_case(alloc, &columns, &cases[number]) {
-            return Ok(Some(number));
+        if !is_case(alloc, columns, &cases[number]) {
+            return Some(number);
         }
     }
-    Ok(None)
+    None
 }
 
 /// Whether the audit of the history says what the case says.
@@ -204,7 +239,7 @@ fn is_case(alloc: Global, columns: &Columns, case: &Case) -> bool {
 
 /// Histories, one of each kind. Many more are computed from the definitions in `lineage_model`
 /// (specs/Examples.antt).
-static HISTORIES: [Case; 6] = [
+static HISTORIES: [Case; 7] = [
     // Two appends.
     (
         NEW,
@@ -237,55 +272,15 @@ static HISTORIES: [Case; 6] = [
         &[(Append(1), Some(1), &[], &[(7, 0), (0, 1), (5, -3)], Some(1))],
         Legal(3, 1, 0, Some(1), 1),
     ),
+    // A row that is named keeps its cells and its last change. Behind it stands a row that is added.
+    (
+        OLD,
+        &[UPGRADE, (Append(1), Some(3), &[(4, 1)], &[(6, 1)], Some(7))],
+        Rows(&[(4, 1, 1), (6, 3, 0)]),
+    ),
 ];
 
 #[test]
-fn a_history_is_legal_up_to_its_first_fault(rt: HostRuntime) -> Result<(), Fail> {
-    assert_eq!(rt; first_wrong(rt.alloc(), &HISTORIES)?, None);
-    Ok(())
-}
-
-/// A row of the old table gets its id, and a row is added.
-static NAMING: [Line; 2] = [UPGRADE, (Append(1), Some(3), &[(4, 1)], &[(6, 1)], Some(7))];
-
-/// Whether the row has this last change, and one cell with this number.
-fn is_row(row: &(i64, Cells), last: i64, number: i64) -> bool {
-    match row.1.get(0) {
-        Some(Cell::Num(found)) => row.0 == last && *found == number && row.1.len() == 1,
-        _ => false,
-    }
-}
-
-/// Whether the rows have these ids, last changes and numbers.
-fn are_rows(rows: &RowMap, wanted: &[(i64, i64, i64)]) -> bool {
-    let mut place = 0;
-    for (id, row) in rows.iter() {
-        if place >= wanted.len() {
-            return false;
-        }
-        if wanted[place].0 != *id {
-            return false;
-        }
-        if !is_row(row, wanted[place].1, wanted[place].2) {
-            return false;
-        }
-        place += 1;
-    }
-    place == wanted.len()
-}
-
-/// Whether the row of the old table, whose cell is 1, and then the row that is added, whose cell is
-/// 0, stand at their ids.
-fn are_named(alloc: Global) -> Result<bool, Fail> {
-    let columns = one_column(alloc)?;
-    match audited(alloc, &columns, &OLD, &NAMING) {
-        Ok(state) => Ok(are_rows(&state.rows, &[(4, 1, 1), (6, 3, 0)])),
-        Err(_) => Ok(false),
-    }
-}
-
-#[test]
-fn a_row_that_is_named_keeps_its_cells_and_its_last_change(rt: HostRuntime) -> Result<(), Fail> {
-    assert!(rt; are_named(rt.alloc())?);
-    Ok(())
+fn a_history_is_legal_up_to_its_first_fault(rt: HostRuntime) {
+    all_made(&rt, first_wrong(rt.alloc(), &HISTORIES));
 }

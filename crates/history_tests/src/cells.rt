@@ -2,9 +2,11 @@
 
 use crate::answers::Answer::{Misfit, NotNull, Printed, Syntax};
 use crate::answers::{Form, Line, first_wrong};
-use crate::tables::{ToldCell, cells_of, two_columns};
-use row_pred::{print_cells, put_cell, put_cells, take_cell, take_cells};
-use row_types::{Cell, Columns};
+use crate::rows::{all_made, is_so, is_text};
+use crate::tables::{TWO, ToldCell, cells_of, columns_of};
+use avro_wire::Text;
+use row_pred::{PredRefusal, print_cells, put_cell, put_cells, take_cell, take_cells};
+use row_types::{Cell, Cells, Column, Columns};
 use std::alloc::{AllocError, Global};
 use std::test::*;
 
@@ -66,17 +68,9 @@ static KINDS: [Line; 13] = [
 ];
 
 #[test]
-fn a_row_has_a_cell_for_each_column(rt: HostRuntime) -> Result<(), Fail> {
-    assert_eq!(rt; first_wrong(rt.alloc(), Form::Row, &ROWS)?, None);
-    Ok(())
-}
-
-#[test]
-fn an_int_and_a_date_have_32_bits_and_no_kind_another_ones_cells(
-    rt: HostRuntime,
-) -> Result<(), Fail> {
-    assert_eq!(rt; first_wrong(rt.alloc(), Form::KindRow, &KINDS)?, None);
-    Ok(())
+fn a_row_has_a_cell_of_its_kind_and_range_for_each_column(rt: HostRuntime) {
+    all_made(&rt, first_wrong(rt.alloc(), Form::Row, &ROWS));
+    all_made(&rt, first_wrong(rt.alloc(), Form::KindRow, &KINDS));
 }
 
 /// Rows, and how they are printed.
@@ -95,84 +89,103 @@ static SHOWN: [(&[ToldCell], &str); 2] = [
     (&[], ""),
 ];
 
+/// The text of the cells that the table tells.
+fn printed(alloc: Global, told: &[ToldCell]) -> Result<Text, AllocError> {
+    let cells = cells_of(alloc, told)?;
+    print_cells(alloc, &cells)
+}
+
 /// The number of the first row that is printed otherwise, counted from 0.
-fn first_printed_otherwise(
-    alloc: Global,
-    rows: &[(&[ToldCell], &str)],
-) -> Result<Option<usize>, AllocError> {
+fn first_printed_otherwise(alloc: Global, rows: &[(&[ToldCell], &str)]) -> Option<usize> {
     for number in 0..rows.len() {
-        let cells = cells_of(alloc, rows[number].0)?;
-        if print_cells(alloc, &cells)?.as_str() != rows[number].1 {
-            return Ok(Some(number));
+        if !is_text(printed(alloc, rows[number].0), rows[number].1) {
+            return Some(number);
         }
     }
-    Ok(None)
+    None
 }
 
-/// Cells behind other text.
-fn put_behind(alloc: Global) -> Result<String, AllocError> {
-    let mut out = String::from_str(alloc, "row ")?;
-    put_cell(&mut out, &Cell::Num(-1))?;
+/// Puts cells behind other text.
+fn put_behind(out: &mut String) -> Result<(), AllocError> {
+    put_cell(out, &Cell::Num(-1))?;
     out.push_str(": ")?;
-    put_cells(&mut out, &[Cell::Null, Cell::Num(2)])?;
-    Ok(out)
+    put_cells(out, &[Cell::Null, Cell::Num(2)])
 }
 
-/// Whether cells are put behind the text that is there.
-fn are_put_behind(alloc: Global) -> Result<bool, AllocError> {
-    let text = put_behind(alloc)?;
-    Ok(text.as_str() == "row -1: null 2")
-}
-
-#[test]
-fn cells_are_printed_with_a_space_between_them(rt: HostRuntime) -> Result<(), Fail> {
-    assert_eq!(rt; first_printed_otherwise(rt.alloc(), &SHOWN)?, None);
-    Ok(())
+/// The cells behind the text that is there.
+fn text_behind(alloc: Global) -> Result<Text, AllocError> {
+    let mut out = String::from_str(alloc, "row ")?;
+    put_behind(&mut out)?;
+    Ok(Text::from_string(out))
 }
 
 #[test]
-fn cells_are_put_behind_the_text_that_is_there(rt: HostRuntime) -> Result<(), Fail> {
-    assert!(rt; are_put_behind(rt.alloc())?);
-    Ok(())
+fn cells_are_put_behind_the_text_that_is_there_with_a_space_between_them(rt: HostRuntime) {
+    all_made(&rt, Ok(first_printed_otherwise(rt.alloc(), &SHOWN)));
+    is_so(&rt, is_text(text_behind(rt.alloc()), "row -1: null 2"));
 }
 
 /// Two rows behind a word, with a mark between them.
 const TWO_ROWS: &str = r#"append 1 "a" ; 2 null"#;
 
-/// How many cells the row at the place has, and the place after it. `None`: it is refused.
-fn row_end(alloc: Global, place: usize, columns: &Columns) -> Option<(usize, usize)> {
-    if place > TWO_ROWS.len() {
-        return None;
-    }
-    match take_cells(alloc, TWO_ROWS, place, columns.as_slice()) {
-        Ok((cells, after)) => Some((cells.len(), after)),
-        Err(_) => None,
+/// Whether so many cells were taken, up to this place.
+fn is_row(taken: &Result<(Cells, usize), PredRefusal>, count: usize, end: usize) -> bool {
+    match taken {
+        Ok((cells, after)) => cells.len() == count && *after == end,
+        Err(_) => false,
     }
 }
 
-/// The number in the first column at the place, and the place after it. `None`: it is refused, or
-/// no number.
-fn number_end(alloc: Global, place: usize, columns: &Columns) -> Option<(i64, usize)> {
-    let column = columns.get(0)?;
+/// Whether the row at the place has so many cells, and ends there.
+fn ends_row(alloc: Global, columns: &[Column], place: usize, count: usize, end: usize) -> bool {
     if place > TWO_ROWS.len() {
-        return None;
+        return false;
     }
-    match take_cell(alloc, TWO_ROWS, place, column) {
-        Ok((Cell::Num(number), after)) => Some((number, after)),
-        _ => None,
+    let taken = take_cells(alloc, TWO_ROWS, place, columns);
+    is_row(&taken, count, end)
+}
+
+/// Whether this number was taken, up to this place.
+fn is_number(taken: &Result<(Cell, usize), PredRefusal>, number: i64, end: usize) -> bool {
+    match taken {
+        Ok((Cell::Num(found), after)) => *found == number && *after == end,
+        _ => false,
+    }
+}
+
+/// Whether the cell at the place is this number, and ends there.
+fn ends_number(alloc: Global, column: &Column, place: usize, number: i64, end: usize) -> bool {
+    if place > TWO_ROWS.len() {
+        return false;
+    }
+    let taken = take_cell(alloc, TWO_ROWS, place, column);
+    is_number(&taken, number, end)
+}
+
+/// Whether the first cell of the first row ends where its digits do.
+fn ends_first(alloc: Global, columns: &Columns) -> bool {
+    match columns.get(0) {
+        Some(column) => ends_number(alloc, column, 7, 1, 8),
+        None => false,
     }
 }
 
 /// Whether both rows end where their last cells do, and the first cell where its digits do.
 fn end_so(alloc: Global, columns: &Columns) -> bool {
-    row_end(alloc, 7, columns) == Some((2, 12))
-        && row_end(alloc, 15, columns) == Some((2, 21))
-        && number_end(alloc, 7, columns) == Some((1, 8))
+    ends_row(alloc, columns.as_slice(), 7, 2, 12)
+        && ends_row(alloc, columns.as_slice(), 15, 2, 21)
+        && ends_first(alloc, columns)
+}
+
+/// The same in two columns.
+fn end_all(alloc: Global) -> bool {
+    match columns_of(alloc, &TWO) {
+        Ok(columns) => end_so(alloc, &columns),
+        Err(_) => false,
+    }
 }
 
 #[test]
-fn a_row_ends_where_its_last_cell_does(rt: HostRuntime) -> Result<(), Fail> {
-    let columns = two_columns(rt.alloc())?;
-    assert!(rt; end_so(rt.alloc(), &columns));
-    Ok(())
+fn a_row_ends_where_its_last_cell_does(rt: HostRuntime) {
+    is_so(&rt, end_all(rt.alloc()));
 }

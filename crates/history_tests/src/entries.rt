@@ -2,6 +2,7 @@
 
 use crate::answers::Answer::{Misfit, NotNull, Printed, Syntax};
 use crate::answers::{Form, Line, first_wrong};
+use crate::rows::all_made;
 use std::test::*;
 
 /// Texts of entries about two columns.
@@ -137,7 +138,6 @@ static TEXTS: [Line; 52] = [
 ];
 
 #[test]
-fn an_entry_is_read_or_refused_at_its_first_wrong_byte(rt: HostRuntime) -> Result<(), Fail> {
-    assert_eq!(rt; first_wrong(rt.alloc(), Form::Entry, &TEXTS)?, None);
-    Ok(())
+fn an_entry_is_read_or_refused_at_its_first_wrong_byte(rt: HostRuntime) {
+    all_made(&rt, first_wrong(rt.alloc(), Form::Entry, &TEXTS));
 }

@@ -2,6 +2,7 @@
 //!
 //! | Module | What it tries |
 //! |---|---|
+//! | `rows` | what is asserted of a table |
 //! | `tables` | nothing: it makes columns and cells of what a table tells |
 //! | `answers` | nothing: it compares what texts are read as with what a table tells |
 //! | `cells`, `requests`, `entries` | rows, requests and entries, with the runs of ids in them |
@@ -21,5 +22,7 @@ mod entries;
 mod reports;
 #[cfg(test)]
 mod requests;
+#[cfg(test)]
+mod rows;
 #[cfg(test)]
 mod tables;

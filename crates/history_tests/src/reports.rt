@@ -1,5 +1,6 @@
 //! Reports by hand, read and printed.
 
+use crate::rows::{all_made, is_so, is_text};
 use crate::tables::{ToldCell, cells_of};
 use avro_wire::Text;
 use lists::List;
@@ -58,16 +59,27 @@ static COLUMN_LINES: [Judged; 10] = [
     (b"", 1),
 ];
 
-/// The number of the first wrong line of the report that the three are; 0: none is wrong.
-fn wrong_line(alloc: Global, front: &str, inner: &[u8], back: &str) -> Result<u64, AllocError> {
+/// The three, one behind the other.
+fn joined(alloc: Global, front: &str, inner: &[u8], back: &str) -> Result<Vec<u8>, AllocError> {
     let mut bytes = Vec::from_slice(alloc, front.as_bytes())?;
     bytes.extend_from_slice(inner)?;
     bytes.extend_from_slice(back.as_bytes())?;
-    match read_report(alloc, &bytes) {
-        Ok(_) => Ok(0),
-        Err(ReportRefusal::Line { line }) => Ok(line),
-        Err(ReportRefusal::Memory) => Err(AllocError),
+    Ok(bytes)
+}
+
+/// Whether the line is the first wrong one of the report; 0: none is wrong.
+fn is_wrong(read: &Result<Report, ReportRefusal>, wanted: u64) -> bool {
+    match read {
+        Ok(_) => wanted == 0,
+        Err(ReportRefusal::Line { line }) => *line == wanted,
+        Err(ReportRefusal::Memory) => false,
     }
+}
+
+/// Whether the line is the first wrong one of these bytes; 0: none is wrong.
+fn is_judged(alloc: Global, bytes: &[u8], wanted: u64) -> bool {
+    let read = read_report(alloc, bytes);
+    is_wrong(&read, wanted)
 }
 
 /// The number of the first row that is read otherwise between the two texts, counted from 0.
@@ -78,22 +90,21 @@ fn first_wrong(
     back: &str,
 ) -> Result<Option<usize>, AllocError> {
     for number in 0..rows.len() {
-        if wrong_line(alloc, front, rows[number].0, back)? != rows[number].1 {
+        let bytes = joined(alloc, front, rows[number].0, back)?;
+        if !is_judged(alloc, &bytes, rows[number].1) {
             return Ok(Some(number));
         }
     }
     Ok(None)
 }
 
+/// What stands behind the columns of the reports without rows.
+const END: &str = "\nstart 3 0 0\nend\n";
+
 #[test]
-fn the_first_wrong_line_is_told(rt: HostRuntime) -> Result<(), Fail> {
-    assert_eq!(rt; first_wrong(rt.alloc(), SCHEMA, &LINES, "")?, None);
-    let end = "\nstart 3 0 0\nend\n";
-    assert_eq!(rt;
-        first_wrong(rt.alloc(), "schema ", &COLUMN_LINES, end)?,
-        None
-    );
-    Ok(())
+fn the_first_wrong_line_is_told(rt: HostRuntime) {
+    all_made(&rt, first_wrong(rt.alloc(), SCHEMA, &LINES, ""));
+    all_made(&rt, first_wrong(rt.alloc(), "schema ", &COLUMN_LINES, END));
 }
 
 /// The words of the kinds.
@@ -120,31 +131,31 @@ fn is_column(columns: &Columns, kind: Kind) -> bool {
     }
 }
 
-/// Whether the word is the kind's.
-fn is_kind(alloc: Global, word: &str, kind: Kind) -> Result<bool, AllocError> {
-    let mut text = String::from_str(alloc, "schema 7:")?;
-    text.push_str(word)?;
-    text.push_str(":required:\"snö\"\nstart 3 0 0\nend\n")?;
-    match read_report(alloc, text.as_bytes()) {
-        Ok(report) => Ok(is_column(&report.columns, kind)),
-        Err(_) => Ok(false),
+/// Whether the bytes are a report of such a column.
+fn is_read(alloc: Global, bytes: &[u8], kind: Kind) -> bool {
+    match read_report(alloc, bytes) {
+        Ok(report) => is_column(&report.columns, kind),
+        Err(_) => false,
     }
 }
 
 /// The number of the first word that is another kind's, counted from 0.
 fn first_wrong_word(alloc: Global, words: &[(&str, Kind)]) -> Result<Option<usize>, AllocError> {
     for number in 0..words.len() {
-        if !is_kind(alloc, words[number].0, words[number].1)? {
+        let bytes = joined(alloc, "schema 7:", words[number].0.as_bytes(), BEHIND)?;
+        if !is_read(alloc, &bytes, words[number].1) {
             return Ok(Some(number));
         }
     }
     Ok(None)
 }
 
+/// What stands behind the word of the kind.
+const BEHIND: &str = ":required:\"snö\"\nstart 3 0 0\nend\n";
+
 #[test]
-fn each_kind_has_its_word(rt: HostRuntime) -> Result<(), Fail> {
-    assert_eq!(rt; first_wrong_word(rt.alloc(), &WORDS)?, None);
-    Ok(())
+fn each_kind_has_its_word(rt: HostRuntime) {
+    all_made(&rt, first_wrong_word(rt.alloc(), &WORDS));
 }
 
 /// The line of two columns, of which one has a line feed in its name.
@@ -197,40 +208,30 @@ fn printed(alloc: Global, report: &Report, rows: &RowList) -> Result<Text, Alloc
     )
 }
 
-/// Whether the report is printed as the text, with the rows that the table tells.
-fn is_printed_again(alloc: Global, report: &Report, text: &str) -> Result<bool, AllocError> {
+/// The text of the report with the rows that the table tells.
+fn printed_again(alloc: Global, report: &Report) -> Result<Text, AllocError> {
     let rows = rows_of(alloc, &ROWS)?;
-    Ok(printed(alloc, report, &rows)?.as_str() == text)
-}
-
-/// Whether the columns are printed as the text.
-fn are_printed(alloc: Global, columns: &Columns, text: &str) -> Result<bool, AllocError> {
-    Ok(print_columns(alloc, columns)?.as_str() == text)
+    printed(alloc, report, &rows)
 }
 
 /// Whether the report has one row with an id and one without, and is printed as the text, and its
 /// columns as theirs.
-fn is_right(alloc: Global, report: &Report, text: &str, line: &str) -> Result<bool, AllocError> {
-    if report.start.unnamed.len() != 1 || report.start.rows.len() != 1 {
-        return Ok(false);
-    }
-    if !are_printed(alloc, &report.columns, line)? {
-        return Ok(false);
-    }
-    is_printed_again(alloc, report, text)
+fn is_right(alloc: Global, report: &Report, text: &str, line: &str) -> bool {
+    report.start.unnamed.len() == 1
+        && report.start.rows.len() == 1
+        && is_text(print_columns(alloc, &report.columns), line)
+        && is_text(printed_again(alloc, report), text)
 }
 
-/// The report that the text is.
-fn report_of(alloc: Global, text: &str) -> Result<Report, AllocError> {
+/// Whether the text is a report that is printed as it.
+fn is_kept(alloc: Global, text: &str, line: &str) -> bool {
     match read_report(alloc, text.as_bytes()) {
-        Ok(report) => Ok(report),
-        Err(_) => Err(AllocError),
+        Ok(report) => is_right(alloc, &report, text, line),
+        Err(_) => false,
     }
 }
 
 #[test]
-fn what_is_read_is_printed_again(rt: HostRuntime) -> Result<(), Fail> {
-    let report = report_of(rt.alloc(), WHOLE)?;
-    assert!(rt; is_right(rt.alloc(), &report, WHOLE, COLUMNS_TEXT)?);
-    Ok(())
+fn what_is_read_is_printed_again(rt: HostRuntime) {
+    is_so(&rt, is_kept(rt.alloc(), WHOLE, COLUMNS_TEXT));
 }

@@ -2,6 +2,7 @@
 
 use crate::answers::Answer::{Misfit, NotNull, Printed, Syntax};
 use crate::answers::{Form, Line, first_wrong};
+use crate::rows::{all_made, is_text};
 use crate::tables::{ToldCell, cells_of};
 use avro_wire::Text;
 use history_log::print_request;
@@ -120,25 +121,25 @@ fn request_of(alloc: Global, asked: &Asked) -> Result<Request, AllocError> {
     }
 }
 
+/// The text of the request that the table tells.
+fn printed(alloc: Global, asked: &Asked) -> Result<Text, AllocError> {
+    let request = request_of(alloc, asked)?;
+    print_request(alloc, &request)
+}
+
 /// The number of the first request that is printed otherwise, counted from 0.
-fn first_printed_otherwise(alloc: Global, lines: &[Told]) -> Result<Option<usize>, AllocError> {
+fn first_printed_otherwise(alloc: Global, lines: &[Told]) -> Option<usize> {
     for number in 0..lines.len() {
-        let request = request_of(alloc, &lines[number].0)?;
-        if print_request(alloc, &request)?.as_str() != lines[number].1 {
-            return Ok(Some(number));
+        let line = &lines[number];
+        if !is_text(printed(alloc, &line.0), line.1) {
+            return Some(number);
         }
     }
-    Ok(None)
+    None
 }
 
 #[test]
-fn a_request_is_read_or_refused_at_its_first_wrong_byte(rt: HostRuntime) -> Result<(), Fail> {
-    assert_eq!(rt; first_wrong(rt.alloc(), Form::Request, &TEXTS)?, None);
-    Ok(())
-}
-
-#[test]
-fn a_request_is_printed_as_its_text(rt: HostRuntime) -> Result<(), Fail> {
-    assert_eq!(rt; first_printed_otherwise(rt.alloc(), &REQUESTS)?, None);
-    Ok(())
+fn a_request_is_printed_as_its_text_and_read_or_refused_at_its_first_wrong_byte(rt: HostRuntime) {
+    all_made(&rt, Ok(first_printed_otherwise(rt.alloc(), &REQUESTS)));
+    all_made(&rt, first_wrong(rt.alloc(), Form::Request, &TEXTS));
 }

@@ -17,11 +17,14 @@ pub enum ToldCell {
     Bytes(&'static [u8]),
 }
 
-static ONE: [ToldColumn; 1] = [(1, "n", Kind::Long, false)];
+/// The column `1:long:optional:n`.
+pub static ONE: [ToldColumn; 1] = [(1, "n", Kind::Long, false)];
 
-static TWO: [ToldColumn; 2] = [(10, "n", Kind::Long, true), (11, "s", Kind::Text, false)];
+/// The columns `10:long:required:n` and `11:string:optional:s`.
+pub static TWO: [ToldColumn; 2] = [(10, "n", Kind::Long, true), (11, "s", Kind::Text, false)];
 
-static NINE: [ToldColumn; 9] = [
+/// A column of each kind, which may be null.
+pub static NINE: [ToldColumn; 9] = [
     (1, "boolean", Kind::Boolean, false),
     (2, "int", Kind::Int, false),
     (3, "long", Kind::Long, false),
@@ -33,30 +36,15 @@ static NINE: [ToldColumn; 9] = [
     (9, "binary", Kind::Bytes, false),
 ];
 
-/// The column `1:long:optional:n`.
-pub fn one_column(alloc: Global) -> Result<Columns, AllocError> {
-    columns_of(list_of(alloc, &ONE)?)
-}
-
-/// The columns `10:long:required:n` and `11:string:optional:s`.
-pub fn two_columns(alloc: Global) -> Result<Columns, AllocError> {
-    columns_of(list_of(alloc, &TWO)?)
-}
-
-/// A column of each kind, which may be null.
-pub fn nine_columns(alloc: Global) -> Result<Columns, AllocError> {
-    columns_of(list_of(alloc, &NINE)?)
-}
-
-/// The columns of a list without a fault.
-fn columns_of(list: Vec<Column>) -> Result<Columns, AllocError> {
-    match Columns::from_list(list) {
+/// The columns that the table tells, which has no fault.
+pub fn columns_of(alloc: Global, table: &[ToldColumn]) -> Result<Columns, AllocError> {
+    match Columns::from_list(list_of(alloc, table)?) {
         Ok(columns) => Ok(columns),
         Err(_) => Err(AllocError),
     }
 }
 
-/// The columns that the table tells.
+/// The list of the columns that the table tells.
 fn list_of(alloc: Global, table: &[ToldColumn]) -> Result<Vec<Column>, AllocError> {
     let mut list = Vec::new(alloc);
     for told in table {
