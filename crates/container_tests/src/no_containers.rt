@@ -10,7 +10,7 @@ use std::test::*;
 type Refused = (&'static [&'static [u8]], &'static str, u64);
 
 /// The first wrong byte.
-static FILES: [Refused; 6] = [
+static FILES: [Refused; 7] = [
     (&[], "Short", 0),
     (&[b"Obj\x02\x00"], "Magic", 0),
     // Another last byte.
@@ -57,6 +57,19 @@ static FILES: [Refused; 6] = [
         "Form",
         1,
     ),
+    // A count that is too long.
+    (
+        &[
+            FRONT,
+            SCHEMA,
+            CODEC,
+            b"\x08null\x00",
+            MARKER,
+            b"\xff\xff\xff\xff\xff\xff\xff\xff\xff\xff\x01",
+        ],
+        "Form",
+        1,
+    ),
     // A block of the map that tells an untrue size.
     (
         &[b"Obj\x01\x01\x1e\x16avro.schema\x02x\x00", MARKER],
@@ -66,7 +79,7 @@ static FILES: [Refused; 6] = [
 ];
 
 /// The first wrong item of the header.
-static HEADERS: [Refused; 5] = [
+static HEADERS: [Refused; 7] = [
     (
         &[
             FRONT,
@@ -88,6 +101,10 @@ static HEADERS: [Refused; 5] = [
     (&[b"Obj\x01\x02\x02a\x00\x00", MARKER], "Header", 9),
     // Too many pairs.
     (&[b"Obj\x01\x82\x80\x80\x10", MARKER], "Header", 4),
+    // Too many pairs in a block with a size.
+    (&[b"Obj\x01\x81\x80\x80\x10\x00", MARKER], "Header", 4),
+    // As many pairs as there may be, of which the second has the key of the first.
+    (&[b"Obj\x01\x80\x80\x80\x10", MARKER], "Header", 10),
 ];
 
 /// The number that a refusal tells. 0: it tells none.

@@ -214,11 +214,20 @@ fn printed_again(alloc: Global, report: &Report) -> Result<Text, AllocError> {
     printed(alloc, report, &rows)
 }
 
-/// Whether the report has one row with an id and one without, and is printed as the text, and its
-/// columns as theirs.
+/// Whether the report has one row with the id 6 and one without id, each with its last change.
+fn has_rows(report: &Report) -> bool {
+    let start = &report.start;
+    match (start.unnamed.get(0), start.rows.get(6)) {
+        (Some(unnamed), Some(named)) => {
+            start.unnamed.len() == 1 && start.rows.len() == 1 && unnamed.0 == 4 && named.0 == 5
+        }
+        _ => false,
+    }
+}
+
+/// Whether the report has its rows, and is printed as the text, and its columns as theirs.
 fn is_right(alloc: Global, report: &Report, text: &str, line: &str) -> bool {
-    report.start.unnamed.len() == 1
-        && report.start.rows.len() == 1
+    has_rows(report)
         && is_text(print_columns(alloc, &report.columns), line)
         && is_text(printed_again(alloc, report), text)
 }

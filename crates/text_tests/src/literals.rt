@@ -11,7 +11,7 @@ use std::test::*;
 /// of the refusal.
 type Line = (&'static str, usize, Result<(&'static str, usize), u64>);
 
-static LITERALS: [Line; 23] = [
+static LITERALS: [Line; 24] = [
     (r#""""#, 0, Ok(("", 2))),
     (r#""abc""#, 0, Ok(("abc", 5))),
     (r#""snö\n\"\\""#, 0, Ok(("snö\n\"\\", 12))),
@@ -32,6 +32,7 @@ static LITERALS: [Line; 23] = [
     ("\"a\\", 0, Err(3)),
     (r#""a\q""#, 0, Err(3)),
     (r#""\N""#, 0, Err(2)),
+    (r#""a\/b""#, 0, Err(3)),
     (r#""\u0041""#, 0, Err(2)),
     ("\"a\nb\"", 0, Err(2)),
     ("\"\rb\"", 0, Err(1)),
