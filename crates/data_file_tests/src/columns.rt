@@ -1,9 +1,10 @@
 //! The columns of files, by their own schemas.
 
 use crate::files::{Named, Refused, are_columns, file_of, is_refused};
+use crate::rows::all_right;
 use row_file::{RowRefusal, file_columns};
 use row_types::{Columns, Kind};
-use std::alloc::{AllocError, Global};
+use std::alloc::Global;
 use std::test::*;
 
 /// A schema, and the columns of its file or, in place of them, the refusal.
@@ -13,6 +14,7 @@ struct Case {
     refused: Option<Refused>,
 }
 
+/// Files with a column for each field without a reserved id.
 static WITH_COLUMNS: [Case; 4] = [
     Case {
         schema: r#"{"type":"record","name":"row","fields":[{"name":"n","type":"long","field-id":1},{"name":"s","type":["null","string"],"default":null,"field-id":2},{"name":"_row_id","type":["null","long"],"default":null,"field-id":2147483540},{"name":"_last_updated_sequence_number","type":["null","long"],"default":null,"field-id":2147483539}]}"#,
@@ -45,6 +47,7 @@ static WITH_COLUMNS: [Case; 4] = [
     },
 ];
 
+/// Files that are refused for their first wrong field.
 static REFUSED: [Case; 14] = [
     // A field without an id comes before the wrong id of an earlier one.
     Case {
@@ -122,42 +125,54 @@ static REFUSED: [Case; 14] = [
     },
 ];
 
-/// Whether this is what is told of the case's file.
-fn is_told(told: &Result<Columns, RowRefusal>, case: &Case) -> bool {
+/// Whether these columns are told, or this refusal.
+fn is_told(
+    told: &Result<Columns, RowRefusal>,
+    columns: &[Named],
+    refused: &Option<Refused>,
+) -> bool {
     match told {
-        Ok(columns) => case.refused.is_none() && are_columns(columns.as_slice(), case.columns),
-        Err(refusal) => match &case.refused {
+        Ok(found) => refused.is_none() && are_columns(found.as_slice(), columns),
+        Err(refusal) => match refused {
             Some(wanted) => is_refused(refusal, wanted),
             None => false,
         },
     }
 }
 
+/// Whether the file has these columns, or is refused so.
+pub fn has_columns(
+    alloc: Global,
+    bytes: &[u8],
+    columns: &[Named],
+    refused: &Option<Refused>,
+) -> bool {
+    let told = file_columns(alloc, bytes);
+    is_told(&told, columns, refused)
+}
+
 /// Whether the case's file, which has no row, has the columns, or is refused so.
-fn is_right(alloc: Global, case: &Case) -> Result<bool, AllocError> {
-    let bytes = file_of(alloc, case.schema, &[])?;
-    let told = file_columns(alloc, bytes.as_slice());
-    Ok(is_told(&told, case))
+fn is_right(alloc: Global, case: &Case) -> bool {
+    match file_of(alloc, case.schema, &[]) {
+        Ok(bytes) => has_columns(alloc, bytes.as_slice(), case.columns, &case.refused),
+        Err(_) => false,
+    }
 }
 
 /// The number of the first case that isn't right; None where there is none.
-fn first_wrong(alloc: Global, cases: &[Case]) -> Result<Option<usize>, AllocError> {
+fn first_wrong(alloc: Global, cases: &[Case]) -> Option<usize> {
     for place in 0..cases.len() {
-        if !is_right(alloc, &cases[place])? {
-            return Ok(Some(place));
+        if !is_right(alloc, &cases[place]) {
+            return Some(place);
         }
     }
-    Ok(None)
+    None
 }
 
 #[test]
-fn a_file_has_a_column_for_each_field_without_a_reserved_id(rt: HostRuntime) -> Result<(), Fail> {
-    assert_eq!(rt; first_wrong(rt.alloc(), &WITH_COLUMNS)?, None);
-    Ok(())
-}
-
-#[test]
-fn a_file_is_refused_for_its_first_wrong_field(rt: HostRuntime) -> Result<(), Fail> {
-    assert_eq!(rt; first_wrong(rt.alloc(), &REFUSED)?, None);
-    Ok(())
+fn a_file_has_a_column_for_each_field_without_a_reserved_id_or_a_first_wrong_field(
+    rt: HostRuntime,
+) {
+    all_right(&rt, first_wrong(rt.alloc(), &WITH_COLUMNS));
+    all_right(&rt, first_wrong(rt.alloc(), &REFUSED));
 }

@@ -48,10 +48,12 @@ fn all_blocks(alloc: Global, table: &[Told]) -> Result<Blocks, AllocError> {
 /// A column: its id, its name, its kind, and whether it is required.
 pub type Named = (i32, &'static str, Kind, bool);
 
-/// The columns; None where they are none of a table.
-pub fn columns_of(alloc: Global, table: &[Named]) -> Result<Option<Columns>, AllocError> {
-    let list = all_columns(alloc, table)?;
-    Ok(Columns::from_list(list).ok())
+/// The columns; None where they are none of a table, or memory ran out.
+pub fn columns_of(alloc: Global, table: &[Named]) -> Option<Columns> {
+    match all_columns(alloc, table) {
+        Ok(list) => Columns::from_list(list).ok(),
+        Err(_) => None,
+    }
 }
 
 /// A list of the columns.

@@ -3,6 +3,7 @@
 //!
 //! | Module | What it has |
 //! |---|---|
+//! | `rows` | what is asserted of a table |
 //! | `files` | a file of a schema and of blocks, columns, and refusals, as tables name them |
 //! | `lineage` | the id of a row, and its last change |
 //! | `columns` | the columns of files, by their own schemas |
@@ -18,5 +19,7 @@ mod files;
 mod lineage;
 #[cfg(test)]
 mod reading;
+#[cfg(test)]
+mod rows;
 #[cfg(test)]
 mod writing;

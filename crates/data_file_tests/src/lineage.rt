@@ -3,6 +3,7 @@
 ghost use Rattle.std.specs.Prelude.{◌^◌, ◌+ℤ◌, ◌<ℤ◌, pos, IfSome};
 ghost use Rattle.std.specs.Bool.{OnTrue};
 
+use crate::rows::all_right;
 use row_file::{row_id, row_last};
 use std::test::*;
 
@@ -67,13 +68,7 @@ fn first_wrong_change(table: &[Change]) -> Option<usize> {
 }
 
 #[test]
-fn a_row_has_its_own_id_or_the_first_one_and_its_position(rt: HostRuntime) -> Result<(), Fail> {
-    assert_eq!(rt; first_wrong_id(&IDS), None);
-    Ok(())
-}
-
-#[test]
-fn a_row_has_its_own_last_change_or_that_of_its_file(rt: HostRuntime) -> Result<(), Fail> {
-    assert_eq!(rt; first_wrong_change(&CHANGES), None);
-    Ok(())
+fn a_row_has_its_own_id_and_last_change_or_those_of_its_file(rt: HostRuntime) {
+    all_right(&rt, first_wrong_id(&IDS));
+    all_right(&rt, first_wrong_change(&CHANGES));
 }

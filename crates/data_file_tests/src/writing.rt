@@ -4,12 +4,14 @@ ghost use Rattle.std.specs.Prelude.{◌≡◌, true, All};
 ghost use Rattle.std.specs.Bool.{OnTrue};
 ghost use Rattle.row_types.specs.Fits.{fits, fits_row, has_number};
 
-use crate::files::{Named, are_columns, columns_of};
-use avro_container::{Block, bound_to, read};
+use crate::columns::has_columns;
+use crate::files::{Named, columns_of};
+use crate::rows::all_right;
+use avro_container::{Block, Container, Meta, bound_to, read};
 use avro_schema::{Field, Schema, read_schema};
 use avro_wire::{Bytes, Text};
 use lists::List;
-use row_file::{file_columns, write_rows};
+use row_file::write_rows;
 use row_types::{Cell, Column, Columns, Kind, StoredRow, StoredRows};
 use std::alloc::{AllocError, Global};
 use std::test::*;
@@ -29,7 +31,7 @@ const MARKER: &[u8] = &[7; 16];
 /// A row's number and text, its id and its last change.
 type Told = (i64, Option<&'static str>, Option<i64>, Option<i64>);
 
-static THREE: [Told; 3] = [
+const THREE: &[Told] = &[
     (1, Some("a"), Some(7), Some(3)),
     (-1, None, None, None),
     (64, Some(""), Some(0), None),
@@ -40,7 +42,7 @@ const THREE_BYTES: &[u8] =
     b"\x06\x26\x02\x02\x02a\x02\x0e\x02\x06\x01\x00\x00\x00\x80\x01\x02\x00\x02\x00\x00";
 
 /// What the file of the three rows is, one part behind the other.
-static PARTS: [&[u8]; 6] = [
+const PARTS: &[&[u8]] = &[
     b"Obj\x01\x04\x16avro.schema\x8e\x05",
     SCHEMA,
     b"\x14avro.codec\x08null\x00",
@@ -64,11 +66,19 @@ fn row(alloc: Global, told: &Told) -> Result<StoredRow, AllocError> {
     })
 }
 
-/// The rows of the table.
-fn rows(alloc: Global, table: &[Told]) -> Result<StoredRows, AllocError> {
+/// What the row at the place is: that of the table, and behind it one whose number is its place.
+fn told_at(table: &[Told], place: u32) -> Told {
+    match table.get(place as usize) {
+        Some(told) => *told,
+        None => (i64::from(place), None, None, None),
+    }
+}
+
+/// So many rows, first those of the table.
+fn rows(alloc: Global, table: &[Told], many: u32) -> Result<StoredRows, AllocError> {
     let mut rows = List::new(alloc);
-    for told in table {
-        rows.push(row(alloc, told)?)?;
+    for place in 0..many {
+        rows.push(row(alloc, &told_at(table, place))?)?;
     }
     Ok(rows)
 }
@@ -115,19 +125,6 @@ fn are_rows(columns: &[Column], rows: &[StoredRow]) -> bool
     true
 }
 
-/// The file of the rows in these columns; None where they don't fit, or are no columns.
-fn file(
-    alloc: Global,
-    columns: &[Named],
-    lineage: bool,
-    rows: &StoredRows,
-) -> Result<Option<Bytes>, AllocError> {
-    match columns_of(alloc, columns)? {
-        Some(columns) => Ok(file_in(alloc, &columns, lineage, rows)),
-        None => Ok(None),
-    }
-}
-
 /// The file of the rows in the columns; None where they don't fit.
 fn file_in(alloc: Global, columns: &Columns, lineage: bool, rows: &StoredRows) -> Option<Bytes> {
     if !are_rows(columns.as_slice(), rows.as_slice()) {
@@ -136,7 +133,158 @@ fn file_in(alloc: Global, columns: &Columns, lineage: bool, rows: &StoredRows) -
     write_rows(alloc, columns, [7; 16], lineage, rows).ok()
 }
 
-static TWO_COLUMNS: [Named; 2] = [(1, "n", Kind::Long, true), (2, "s", Kind::Text, false)];
+const TWO_COLUMNS: &[Named] = &[(1, "n", Kind::Long, true), (2, "s", Kind::Text, false)];
+
+/// What a file has.
+enum Wanted {
+    /// These bytes, one part behind the other.
+    Parts(&'static [&'static [u8]]),
+    /// Fields of these names and ids.
+    Fields(&'static [(&'static str, i32)]),
+    /// Blocks of these counts.
+    Counts(&'static [i64]),
+    /// The columns that it is written of.
+    Columns,
+}
+
+/// The columns of a file, whether lineage is written, its first rows, how many there are, and what
+/// the file has.
+struct Case {
+    columns: &'static [Named],
+    lineage: bool,
+    told: &'static [Told],
+    many: u32,
+    wanted: Wanted,
+}
+
+/// A file of three rows has its schema and then its rows.
+static WHOLE: [Case; 1] = [Case {
+    columns: TWO_COLUMNS,
+    lineage: true,
+    told: THREE,
+    many: 3,
+    wanted: Wanted::Parts(PARTS),
+}];
+
+const BY_IDS: &[(&str, i32)] = &[("f1", 1), ("f2", 2)];
+
+static FIELDS: [Case; 7] = [
+    // A field has its name where all are names of Avro.
+    Case {
+        columns: &[(1, "n", Kind::Long, true), (2, "_2", Kind::Text, false)],
+        lineage: false,
+        told: &[],
+        many: 0,
+        wanted: Wanted::Fields(&[("n", 1), ("_2", 2)]),
+    },
+    Case {
+        columns: &[(1, "n", Kind::Long, true), (2, "a b", Kind::Text, false)],
+        lineage: false,
+        told: &[],
+        many: 0,
+        wanted: Wanted::Fields(BY_IDS),
+    },
+    Case {
+        columns: &[(1, "n", Kind::Long, true), (2, "2a", Kind::Text, false)],
+        lineage: false,
+        told: &[],
+        many: 0,
+        wanted: Wanted::Fields(BY_IDS),
+    },
+    Case {
+        columns: &[
+            (1, "_row_id", Kind::Long, true),
+            (2, "s", Kind::Text, false),
+        ],
+        lineage: false,
+        told: &[],
+        many: 0,
+        wanted: Wanted::Fields(BY_IDS),
+    },
+    Case {
+        columns: &[
+            (1, "n", Kind::Long, true),
+            (2, "_last_updated_sequence_number", Kind::Text, false),
+        ],
+        lineage: false,
+        told: &[],
+        many: 0,
+        wanted: Wanted::Fields(BY_IDS),
+    },
+    Case {
+        columns: &[(1, "é", Kind::Long, true), (2, "s", Kind::Text, false)],
+        lineage: false,
+        told: &[],
+        many: 0,
+        wanted: Wanted::Fields(BY_IDS),
+    },
+    Case {
+        columns: &[(1, "n", Kind::Long, true), (2, "s", Kind::Text, false)],
+        lineage: true,
+        told: &[],
+        many: 0,
+        wanted: Wanted::Fields(&[
+            ("n", 1),
+            ("s", 2),
+            ("_row_id", 2_147_483_540),
+            ("_last_updated_sequence_number", 2_147_483_539),
+        ]),
+    },
+];
+
+/// A block has no more than 1000 rows.
+static COUNTS: [Case; 4] = [
+    Case {
+        columns: TWO_COLUMNS,
+        lineage: false,
+        told: &[],
+        many: 0,
+        wanted: Wanted::Counts(&[]),
+    },
+    Case {
+        columns: TWO_COLUMNS,
+        lineage: false,
+        told: &[],
+        many: 1,
+        wanted: Wanted::Counts(&[1]),
+    },
+    Case {
+        columns: TWO_COLUMNS,
+        lineage: false,
+        told: &[],
+        many: 1_000,
+        wanted: Wanted::Counts(&[1000]),
+    },
+    Case {
+        columns: TWO_COLUMNS,
+        lineage: false,
+        told: &[],
+        many: 1_001,
+        wanted: Wanted::Counts(&[1000, 1]),
+    },
+];
+
+/// A column of each kind.
+const KINDS: &[Named] = &[
+    (1, "c1", Kind::Boolean, false),
+    (2, "c2", Kind::Int, true),
+    (3, "c3", Kind::Long, false),
+    (4, "c4", Kind::Date, true),
+    (5, "c5", Kind::Time, false),
+    (6, "c6", Kind::Timestamp, true),
+    (7, "c7", Kind::Timestamptz, false),
+    (8, "c8", Kind::Text, true),
+    (9, "c9", Kind::Bytes, false),
+];
+
+/// A file has the columns that it is written of.
+static KEPT: [Case; 1] = [Case {
+    columns: KINDS,
+    lineage: true,
+    told: &[],
+    many: 0,
+    wanted: Wanted::Columns,
+}];
 
 /// The parts, one behind the other.
 fn joined(alloc: Global, parts: &[&[u8]]) -> Result<Vec<u8>, AllocError> {
@@ -147,96 +295,12 @@ fn joined(alloc: Global, parts: &[&[u8]]) -> Result<Vec<u8>, AllocError> {
     Ok(bytes)
 }
 
-/// Whether these are the bytes of the three rows' file.
-fn are_right(alloc: Global, bytes: &[u8]) -> Result<bool, AllocError> {
-    let wanted = joined(alloc, &PARTS)?;
-    Ok(bytes == wanted.as_slice())
-}
-
-/// Whether the file of the three rows is right.
-fn is_written(alloc: Global) -> Result<bool, AllocError> {
-    let rows = rows(alloc, &THREE)?;
-    match file(alloc, &TWO_COLUMNS, true, &rows)? {
-        Some(bytes) => are_right(alloc, bytes.as_slice()),
-        None => Ok(false),
+/// Whether the bytes are these parts.
+fn are_parts(alloc: Global, bytes: &[u8], parts: &[&[u8]]) -> bool {
+    match joined(alloc, parts) {
+        Ok(wanted) => bytes == wanted.as_slice(),
+        Err(_) => false,
     }
-}
-
-#[test]
-fn a_file_has_its_schema_and_then_its_rows(rt: HostRuntime) -> Result<(), Fail> {
-    assert!(rt; is_written(rt.alloc())?);
-    Ok(())
-}
-
-/// The names of the two columns of a file, whether lineage is written, and the names and ids of the
-/// fields.
-struct Fields {
-    columns: &'static [Named],
-    lineage: bool,
-    fields: &'static [(&'static str, i32)],
-}
-
-const BY_IDS: &[(&str, i32)] = &[("f1", 1), ("f2", 2)];
-
-static FIELDS: [Fields; 7] = [
-    // A field has its name where all are names of Avro.
-    Fields {
-        columns: &[(1, "n", Kind::Long, true), (2, "_2", Kind::Text, false)],
-        lineage: false,
-        fields: &[("n", 1), ("_2", 2)],
-    },
-    Fields {
-        columns: &[(1, "n", Kind::Long, true), (2, "a b", Kind::Text, false)],
-        lineage: false,
-        fields: BY_IDS,
-    },
-    Fields {
-        columns: &[(1, "n", Kind::Long, true), (2, "2a", Kind::Text, false)],
-        lineage: false,
-        fields: BY_IDS,
-    },
-    Fields {
-        columns: &[
-            (1, "_row_id", Kind::Long, true),
-            (2, "s", Kind::Text, false),
-        ],
-        lineage: false,
-        fields: BY_IDS,
-    },
-    Fields {
-        columns: &[
-            (1, "n", Kind::Long, true),
-            (2, "_last_updated_sequence_number", Kind::Text, false),
-        ],
-        lineage: false,
-        fields: BY_IDS,
-    },
-    Fields {
-        columns: &[(1, "é", Kind::Long, true), (2, "s", Kind::Text, false)],
-        lineage: false,
-        fields: BY_IDS,
-    },
-    Fields {
-        columns: &[(1, "n", Kind::Long, true), (2, "s", Kind::Text, false)],
-        lineage: true,
-        fields: &[
-            ("n", 1),
-            ("s", 2),
-            ("_row_id", 2_147_483_540),
-            ("_last_updated_sequence_number", 2_147_483_539),
-        ],
-    },
-];
-
-/// The schema that the header of the file binds; None where there is none.
-fn schema_in(alloc: Global, bytes: &[u8]) -> Option<Schema> {
-    let container = read(alloc, bytes).ok()?;
-    schema_of(alloc, bound_to(&container.meta, "avro.schema")?)
-}
-
-/// The schema of the text.
-fn schema_of(alloc: Global, text: &[u8]) -> Option<Schema> {
-    read_schema(alloc, text).ok()
 }
 
 /// Whether there is a field, and it has the name and the id.
@@ -265,50 +329,20 @@ fn has_fields(schema: &Schema, wanted: &[(&str, i32)]) -> bool {
     }
 }
 
-/// Whether the file's schema is a record of such fields.
-fn is_of_fields(alloc: Global, bytes: &[u8], wanted: &[(&str, i32)]) -> bool {
-    match schema_in(alloc, bytes) {
-        Some(schema) => has_fields(&schema, wanted),
+/// Whether the text is the schema of a record of such fields.
+fn spells_fields(alloc: Global, text: &[u8], wanted: &[(&str, i32)]) -> bool {
+    match read_schema(alloc, text) {
+        Ok(schema) => has_fields(&schema, wanted),
+        Err(_) => false,
+    }
+}
+
+/// Whether the header binds such a schema.
+fn binds_fields(alloc: Global, meta: &Meta, wanted: &[(&str, i32)]) -> bool {
+    match bound_to(meta, "avro.schema") {
+        Some(text) => spells_fields(alloc, text, wanted),
         None => false,
     }
-}
-
-/// Whether a file without rows has the fields.
-fn is_named(alloc: Global, case: &Fields) -> Result<bool, AllocError> {
-    match file(alloc, case.columns, case.lineage, &List::new(alloc))? {
-        Some(bytes) => Ok(is_of_fields(alloc, bytes.as_slice(), case.fields)),
-        None => Ok(false),
-    }
-}
-
-/// The number of the first case with other fields; None where there is none.
-fn first_misnamed(alloc: Global, cases: &[Fields]) -> Result<Option<usize>, AllocError> {
-    for place in 0..cases.len() {
-        if !is_named(alloc, &cases[place])? {
-            return Ok(Some(place));
-        }
-    }
-    Ok(None)
-}
-
-#[test]
-fn a_field_has_its_name_where_all_are_names_of_avro(rt: HostRuntime) -> Result<(), Fail> {
-    assert_eq!(rt; first_misnamed(rt.alloc(), &FIELDS)?, None);
-    Ok(())
-}
-
-/// A number of rows, and the counts of the blocks of their file.
-type Counts = (u32, &'static [i64]);
-
-static COUNTS: [Counts; 4] = [(0, &[]), (1, &[1]), (1_000, &[1000]), (1_001, &[1000, 1])];
-
-/// So many rows.
-fn numbers(alloc: Global, many: u32) -> Result<StoredRows, AllocError> {
-    let mut rows = List::new(alloc);
-    for place in 0..many {
-        rows.push(row(alloc, &(i64::from(place), None, None, None))?)?;
-    }
-    Ok(rows)
 }
 
 /// Whether the blocks have these counts.
@@ -322,70 +356,74 @@ fn have_counts(blocks: &[Block], wanted: &[i64]) -> bool {
     blocks.len() == wanted.len()
 }
 
-/// Whether the file's blocks have these counts.
-fn has_counts(alloc: Global, bytes: &[u8], wanted: &[i64]) -> bool {
+/// Whether the container has such a header or such blocks.
+fn has_parts(alloc: Global, container: &Container, wanted: &Wanted) -> bool {
+    match wanted {
+        Wanted::Fields(fields) => binds_fields(alloc, &container.meta, fields),
+        Wanted::Counts(counts) => have_counts(container.blocks.as_slice(), counts),
+        _ => false,
+    }
+}
+
+/// Whether the bytes are such a container.
+fn is_container(alloc: Global, bytes: &[u8], wanted: &Wanted) -> bool {
     match read(alloc, bytes) {
-        Ok(container) => have_counts(container.blocks.as_slice(), wanted),
+        Ok(container) => has_parts(alloc, &container, wanted),
         Err(_) => false,
     }
 }
 
-/// Whether the file of so many rows has blocks of these counts.
-fn is_counted(alloc: Global, case: &Counts) -> Result<bool, AllocError> {
-    let rows = numbers(alloc, case.0)?;
-    match file(alloc, &TWO_COLUMNS, false, &rows)? {
-        Some(bytes) => Ok(has_counts(alloc, bytes.as_slice(), case.1)),
-        None => Ok(false),
+/// Whether the file has what is wanted of the case.
+fn has_wanted(alloc: Global, bytes: &[u8], case: &Case) -> bool {
+    match &case.wanted {
+        Wanted::Parts(parts) => are_parts(alloc, bytes, parts),
+        Wanted::Columns => has_columns(alloc, bytes, case.columns, &None),
+        wanted => is_container(alloc, bytes, wanted),
     }
 }
 
-/// The number of the first case with other counts; None where there is none.
-fn first_miscounted(alloc: Global, cases: &[Counts]) -> Result<Option<usize>, AllocError> {
+/// Whether the file of the rows in the columns has what is wanted.
+fn is_file_of(alloc: Global, columns: &Columns, rows: &StoredRows, case: &Case) -> bool {
+    match file_in(alloc, columns, case.lineage, rows) {
+        Some(bytes) => has_wanted(alloc, bytes.as_slice(), case),
+        None => false,
+    }
+}
+
+/// Whether the file of the rows has what is wanted.
+fn is_file(alloc: Global, rows: &StoredRows, case: &Case) -> bool {
+    match columns_of(alloc, case.columns) {
+        Some(columns) => is_file_of(alloc, &columns, rows, case),
+        None => false,
+    }
+}
+
+/// Whether the file of the case has what is wanted.
+fn is_right(alloc: Global, case: &Case) -> bool {
+    match rows(alloc, case.told, case.many) {
+        Ok(rows) => is_file(alloc, &rows, case),
+        Err(_) => false,
+    }
+}
+
+/// The number of the first case whose file lacks what is wanted; None where there is none.
+fn first_wrong(alloc: Global, cases: &[Case]) -> Option<usize> {
     for place in 0..cases.len() {
-        if !is_counted(alloc, &cases[place])? {
-            return Ok(Some(place));
+        if !is_right(alloc, &cases[place]) {
+            return Some(place);
         }
     }
-    Ok(None)
+    None
 }
 
 #[test]
-fn a_block_has_no_more_than_1000_rows(rt: HostRuntime) -> Result<(), Fail> {
-    assert_eq!(rt; first_miscounted(rt.alloc(), &COUNTS)?, None);
-    Ok(())
-}
-
-/// A column of each kind.
-static KINDS: [Named; 9] = [
-    (1, "c1", Kind::Boolean, false),
-    (2, "c2", Kind::Int, true),
-    (3, "c3", Kind::Long, false),
-    (4, "c4", Kind::Date, true),
-    (5, "c5", Kind::Time, false),
-    (6, "c6", Kind::Timestamp, true),
-    (7, "c7", Kind::Timestamptz, false),
-    (8, "c8", Kind::Text, true),
-    (9, "c9", Kind::Bytes, false),
-];
-
-/// Whether the file has the columns.
-fn has_columns(alloc: Global, bytes: &[u8], wanted: &[Named]) -> bool {
-    match file_columns(alloc, bytes) {
-        Ok(columns) => are_columns(columns.as_slice(), wanted),
-        Err(_) => false,
-    }
-}
-
-/// Whether a file without rows has the columns that it is written of.
-fn are_kept(alloc: Global, columns: &[Named]) -> Result<bool, AllocError> {
-    match file(alloc, columns, true, &List::new(alloc))? {
-        Some(bytes) => Ok(has_columns(alloc, bytes.as_slice(), columns)),
-        None => Ok(false),
-    }
+fn a_file_has_its_schema_and_then_its_rows_in_blocks_of_1000(rt: HostRuntime) {
+    all_right(&rt, first_wrong(rt.alloc(), &WHOLE));
+    all_right(&rt, first_wrong(rt.alloc(), &COUNTS));
 }
 
 #[test]
-fn a_file_has_the_columns_that_it_is_written_of(rt: HostRuntime) -> Result<(), Fail> {
-    assert!(rt; are_kept(rt.alloc(), &KINDS)?);
-    Ok(())
+fn a_file_has_the_columns_that_it_is_written_of_by_their_names_of_avro(rt: HostRuntime) {
+    all_right(&rt, first_wrong(rt.alloc(), &KEPT));
+    all_right(&rt, first_wrong(rt.alloc(), &FIELDS));
 }
