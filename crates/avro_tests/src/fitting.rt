@@ -1,8 +1,8 @@
 //! Which values fit a schema.
 
-use crate::rows::all_right;
+use crate::rows::{all_right, schema_of};
 use avro_datum::{Datum, decode, fits};
-use avro_schema::{Schema, read_schema};
+use avro_schema::Schema;
 use std::alloc::Global;
 use std::test::*;
 
@@ -183,9 +183,9 @@ static PARTS: [Fitting; 9] = [
 
 /// Whether the value fits, or not, as the row says.
 fn is_judged(alloc: Global, datum: &Datum, row: &Fitting) -> bool {
-    match read_schema(alloc, row.schema.as_bytes()) {
-        Ok(schema) => fits(&schema, datum) == row.wanted,
-        Err(_) => false,
+    match schema_of(alloc, row.schema) {
+        Some(schema) => fits(&schema, datum) == row.wanted,
+        None => false,
     }
 }
 
@@ -199,9 +199,9 @@ fn is_judged_of(alloc: Global, source: &Schema, row: &Fitting) -> bool {
 
 /// Whether the value fits, or not, as the row says.
 fn is_right(alloc: Global, row: &Fitting) -> bool {
-    match read_schema(alloc, row.source.as_bytes()) {
-        Ok(source) => is_judged_of(alloc, &source, row),
-        Err(_) => false,
+    match schema_of(alloc, row.source) {
+        Some(source) => is_judged_of(alloc, &source, row),
+        None => false,
     }
 }
 
@@ -216,12 +216,8 @@ fn first_misjudged(alloc: Global, rows: &[Fitting]) -> Option<usize> {
 }
 
 #[test]
-fn numbers_and_bytes_fit_by_their_size(rt: HostRuntime) {
+fn numbers_and_bytes_fit_by_their_size_and_what_holds_others_if_they_do(rt: HostRuntime) {
     all_right(&rt, first_misjudged(rt.alloc(), &NUMBERS));
     all_right(&rt, first_misjudged(rt.alloc(), &BYTES));
-}
-
-#[test]
-fn what_holds_others_fits_if_they_do(rt: HostRuntime) {
     all_right(&rt, first_misjudged(rt.alloc(), &PARTS));
 }

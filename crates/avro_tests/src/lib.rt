@@ -2,7 +2,7 @@
 //!
 //! | Module | What it tries |
 //! |---|---|
-//! | `rows` | what is asserted of a table |
+//! | `rows` | what is asserted of a table, and the schema that a row names |
 //! | `numbers`, `sized` | numbers, and bytes and texts with their lengths, in `avro_wire` |
 //! | `parts` | the parts of a value, as tables name them |
 //! | `values`, `no_values`, `fitting` | bytes that are values, that are none, and values that fit |

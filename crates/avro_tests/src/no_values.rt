@@ -1,8 +1,8 @@
 //! Bytes that are no values, and why: when they are decoded, and when they are skipped.
 
-use crate::rows::all_right;
+use crate::rows::{all_right, is_so, is_text, schema_of};
 use avro_datum::{Cursor, DatumRefusal, decode, skip};
-use avro_schema::{Schema, read_schema};
+use avro_schema::Schema;
 use std::alloc::{AllocError, Global};
 use std::test::*;
 
@@ -160,9 +160,9 @@ fn is_not_decoded(alloc: Global, schema: &Schema, row: &Refused) -> bool {
 
 /// Whether the bytes are refused so when they are decoded and when they are skipped.
 fn is_refused(alloc: Global, row: &Refused) -> bool {
-    match read_schema(alloc, row.schema.as_bytes()) {
-        Ok(schema) => is_not_decoded(alloc, &schema, row) && is_not_skipped(&schema, row),
-        Err(_) => false,
+    match schema_of(alloc, row.schema) {
+        Some(schema) => is_not_decoded(alloc, &schema, row) && is_not_skipped(&schema, row),
+        None => false,
     }
 }
 
@@ -176,31 +176,24 @@ fn first_accepted(alloc: Global, rows: &[Refused]) -> Option<usize> {
     None
 }
 
+/// How a refusal is shown.
+fn shown(alloc: Global, refusal: DatumRefusal) -> Result<String, AllocError> {
+    format!(in alloc; "{refusal}")
+}
+
+/// Whether the size that isn't true is shown.
+fn is_size_shown(alloc: Global) -> bool {
+    let size = DatumRefusal::Size { place: 7 };
+    is_text(
+        shown(alloc, size),
+        "the size at byte 7 is not that of its block",
+    )
+}
+
 #[test]
-fn what_is_no_plain_value_is_refused_where_it_begins(rt: HostRuntime) {
+fn what_is_no_value_is_refused_where_it_begins_and_a_refusal_is_shown(rt: HostRuntime) {
     all_right(&rt, first_accepted(rt.alloc(), &PLAIN));
     all_right(&rt, first_accepted(rt.alloc(), &CHOICES));
-}
-
-#[test]
-fn a_block_needs_its_items_a_true_size_and_a_fair_count(rt: HostRuntime) {
     all_right(&rt, first_accepted(rt.alloc(), &BLOCKS));
-}
-
-/// Whether the refusal is shown so.
-fn is_shown(alloc: Global, refusal: DatumRefusal, shown: &str) -> Result<bool, AllocError> {
-    Ok(format!(in alloc; "{refusal}")?.as_str() == shown)
-}
-
-#[test]
-fn a_refusal_is_shown(rt: HostRuntime) -> Result<(), Fail> {
-    let size = DatumRefusal::Size { place: 7 };
-    assert!(rt;
-        is_shown(
-            rt.alloc(),
-            size,
-            "the size at byte 7 is not that of its block"
-        )?
-    );
-    Ok(())
+    is_so(&rt, is_size_shown(rt.alloc()));
 }

@@ -1,6 +1,6 @@
 //! Numbers of `avro_wire`: the standard's table, both ways, and what is no number.
 
-use crate::rows::{all_made, all_right};
+use crate::rows::{all_made, all_right, is_so};
 use avro_wire::{WireRefusal, put_long, take_int, take_long};
 use std::alloc::{AllocError, Global};
 use std::test::*;
@@ -90,17 +90,17 @@ fn a_number_is_spelled_as_the_standard_says(rt: HostRuntime) {
     all_made(&rt, first_miswritten(rt.alloc(), &LONGS));
 }
 
-#[test]
-fn a_longer_spelling_of_a_number_is_read_too(rt: HostRuntime) {
-    all_right(&rt, first_misread_long(&LONGER));
-    all_right(&rt, first_misread_int(&LONGER));
+/// Whether numbers are taken at their places among other bytes.
+fn are_taken() -> bool {
+    let input = [0x09, 0x80, 0x01, 0x05];
+    take_long(&input, 1) == Ok((64, 3)) && take_int(&input, 3) == Ok((-3, 4))
 }
 
 #[test]
-fn a_number_is_taken_at_its_place(rt: HostRuntime) {
-    let input = [0x09, 0x80, 0x01, 0x05];
-    assert_eq!(rt; take_long(&input, 1), Ok((64, 3)));
-    assert_eq!(rt; take_int(&input, 3), Ok((-3, 4)));
+fn a_longer_spelling_of_a_number_is_read_too_and_any_at_its_place(rt: HostRuntime) {
+    all_right(&rt, first_misread_long(&LONGER));
+    all_right(&rt, first_misread_int(&LONGER));
+    is_so(&rt, are_taken());
 }
 
 /// Bytes, a place in them, and why no number can be taken there.

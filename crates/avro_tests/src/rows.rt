@@ -1,6 +1,7 @@
-//! What is asserted of a table.
+//! What is asserted of a table, and the schema that a row names.
 
-use std::alloc::AllocError;
+use avro_schema::{Schema, read_schema};
+use std::alloc::{AllocError, Global};
 use std::process::Abort;
 use std::test::*;
 
@@ -12,4 +13,22 @@ pub fn all_right(rt: &impl Abort, first_wrong: Option<usize>) {
 /// The same of a table whose rows take memory. `None` instead of a number: memory ran out.
 pub fn all_made(rt: &impl Abort, first_wrong: Result<Option<usize>, AllocError>) {
     assert_eq!(rt; first_wrong.ok(), Some(None));
+}
+
+/// Ends the test if what it says isn't so.
+pub fn is_so(rt: &impl Abort, said: bool) {
+    assert!(rt; said);
+}
+
+/// The schema of the text. `None`: it is none, or memory ran out.
+pub fn schema_of(alloc: Global, text: &str) -> Option<Schema> {
+    read_schema(alloc, text.as_bytes()).ok()
+}
+
+/// Whether this text was made.
+pub fn is_text(made: Result<String, AllocError>, wanted: &str) -> bool {
+    match made {
+        Ok(text) => text.as_str() == wanted,
+        Err(_) => false,
+    }
 }

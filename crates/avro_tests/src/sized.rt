@@ -1,6 +1,6 @@
 //! Bytes and texts of `avro_wire`: behind their length, and by themselves.
 
-use crate::rows::{all_made, all_right};
+use crate::rows::{all_right, is_so, is_text};
 use avro_wire::{Bytes, Text, WireRefusal, put_bytes, put_long, take_bytes, text_of};
 use std::alloc::{AllocError, Global};
 use std::test::*;
@@ -54,12 +54,6 @@ fn first_taken(rows: &[Refused]) -> Option<usize> {
     None
 }
 
-#[test]
-fn bytes_are_taken_behind_their_length(rt: HostRuntime) {
-    all_right(&rt, first_mistaken(&TAKEN));
-    all_right(&rt, first_taken(&REFUSED));
-}
-
 /// A byte that was there, the standard's example, a number, and no bytes.
 static BEHIND: [u8; 8] = [0x09, 0x06, 0x66, 0x6f, 0x6f, 0x80, 0x01, 0x00];
 
@@ -73,14 +67,15 @@ fn are_put(alloc: Global) -> Result<bool, AllocError> {
 }
 
 #[test]
-fn items_are_put_behind_the_bytes_that_are_there(rt: HostRuntime) -> Result<(), Fail> {
-    assert!(rt; are_put(rt.alloc())?);
-    Ok(())
+fn bytes_are_taken_behind_their_length_and_put_behind_what_is_there(rt: HostRuntime) {
+    all_right(&rt, first_mistaken(&TAKEN));
+    all_right(&rt, first_taken(&REFUSED));
+    is_so(&rt, matches!(are_put(rt.alloc()), Ok(true)));
 }
 
-/// Whether the refusal is shown so.
-fn is_shown(alloc: Global, refusal: WireRefusal, shown: &str) -> Result<bool, AllocError> {
-    Ok(format!(in alloc; "{refusal}")?.as_str() == shown)
+/// How a refusal is shown.
+fn shown(alloc: Global, refusal: WireRefusal) -> Result<String, AllocError> {
+    format!(in alloc; "{refusal}")
 }
 
 /// A refusal, and how it is shown.
@@ -98,19 +93,14 @@ static SHOWN: [Shown; 2] = [
 ];
 
 /// The first row whose refusal isn't shown so.
-fn first_misshown(alloc: Global, rows: &[Shown]) -> Result<Option<usize>, AllocError> {
+fn first_misshown(alloc: Global, rows: &[Shown]) -> Option<usize> {
     for number in 0..rows.len() {
         let row = &rows[number];
-        if !is_shown(alloc, row.0, row.1)? {
-            return Ok(Some(number));
+        if !is_text(shown(alloc, row.0), row.1) {
+            return Some(number);
         }
     }
-    Ok(None)
-}
-
-#[test]
-fn a_refusal_names_its_place(rt: HostRuntime) {
-    all_made(&rt, first_misshown(rt.alloc(), &SHOWN));
+    None
 }
 
 /// Bytes, and the text that they are.
@@ -156,17 +146,15 @@ fn keeps_bytes(alloc: Global, whole: &[u8]) -> Result<bool, AllocError> {
 }
 
 /// Whether texts and bytes keep what they are made of.
-fn keep_all(alloc: Global) -> Result<bool, AllocError> {
-    Ok(
-        keeps_text(alloc, "snö")?
-            && keeps_string(alloc, "snö")?
-            && keeps_bytes(alloc, &[0, 255, 10])?,
-    )
+fn keep_all(alloc: Global) -> bool {
+    matches!(keeps_text(alloc, "snö"), Ok(true))
+        && matches!(keeps_string(alloc, "snö"), Ok(true))
+        && matches!(keeps_bytes(alloc, &[0, 255, 10]), Ok(true))
 }
 
 #[test]
-fn texts_and_bytes_keep_what_they_are_made_of(rt: HostRuntime) -> Result<(), Fail> {
+fn a_refusal_names_its_place_and_texts_and_bytes_keep_what_they_are_made_of(rt: HostRuntime) {
+    all_right(&rt, first_misshown(rt.alloc(), &SHOWN));
     all_right(&rt, first_mistold(&TOLD));
-    assert!(rt; keep_all(rt.alloc())?);
-    Ok(())
+    is_so(&rt, keep_all(rt.alloc()));
 }

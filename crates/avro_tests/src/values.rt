@@ -1,9 +1,9 @@
 //! Bytes that are values: decoded, skipped and written.
 
 use crate::parts::{Part, are_parts_of};
-use crate::rows::{all_made, all_right};
+use crate::rows::{all_made, all_right, schema_of};
 use avro_datum::{Cursor, Datum, decode, encode, skip};
-use avro_schema::{Schema, read_schema};
+use avro_schema::Schema;
 use lists::Copied;
 use std::alloc::{AllocError, Global};
 use std::test::*;
@@ -290,9 +290,9 @@ fn is_read_by(alloc: Global, schema: &Schema, case: &Case) -> Result<bool, Alloc
 
 /// Whether the bytes are the value of the case, and are skipped to their end.
 fn is_read(alloc: Global, case: &Case) -> Result<bool, AllocError> {
-    match read_schema(alloc, case.schema.as_bytes()) {
-        Ok(schema) => is_read_by(alloc, &schema, case),
-        Err(_) => Ok(false),
+    match schema_of(alloc, case.schema) {
+        Some(schema) => is_read_by(alloc, &schema, case),
+        None => Ok(false),
     }
 }
 
@@ -307,18 +307,10 @@ fn first_misread(alloc: Global, rows: &[Case]) -> Result<Option<usize>, AllocErr
 }
 
 #[test]
-fn the_standards_examples_are_read_and_written(rt: HostRuntime) {
+fn values_and_rows_and_any_blocks_are_read_and_one_block_is_written(rt: HostRuntime) {
     all_made(&rt, first_misread(rt.alloc(), &EXAMPLES));
     all_made(&rt, first_misread(rt.alloc(), &PLAIN));
-}
-
-#[test]
-fn the_rows_of_a_file_are_read_by_its_schema(rt: HostRuntime) {
     all_made(&rt, first_misread(rt.alloc(), &ROWS));
-}
-
-#[test]
-fn any_blocks_are_read_and_one_is_written(rt: HostRuntime) {
     all_made(&rt, first_misread(rt.alloc(), &BLOCKS));
 }
 
@@ -367,9 +359,9 @@ fn is_skipped_by(schema: &Schema, row: &Placed) -> bool {
 
 /// Whether the value is skipped to its end.
 fn is_skipped(alloc: Global, row: &Placed) -> bool {
-    match read_schema(alloc, row.schema.as_bytes()) {
-        Ok(schema) => is_skipped_by(&schema, row),
-        Err(_) => false,
+    match schema_of(alloc, row.schema) {
+        Some(schema) => is_skipped_by(&schema, row),
+        None => false,
     }
 }
 
@@ -396,9 +388,9 @@ fn is_decoded_by(alloc: Global, schema: &Schema, row: &Placed) -> bool {
 
 /// Whether the value is decoded to its end.
 fn is_decoded(alloc: Global, row: &Placed) -> bool {
-    match read_schema(alloc, row.schema.as_bytes()) {
-        Ok(schema) => is_decoded_by(alloc, &schema, row),
-        Err(_) => false,
+    match schema_of(alloc, row.schema) {
+        Some(schema) => is_decoded_by(alloc, &schema, row),
+        None => false,
     }
 }
 
@@ -413,12 +405,8 @@ fn first_misdecoded(alloc: Global, rows: &[Placed]) -> Option<usize> {
 }
 
 #[test]
-fn a_value_is_read_and_skipped_from_its_place(rt: HostRuntime) {
+fn a_value_is_read_and_skipped_from_its_place_also_items_of_no_bytes(rt: HostRuntime) {
     all_right(&rt, first_misdecoded(rt.alloc(), &PLACED));
     all_right(&rt, first_misskipped(rt.alloc(), &PLACED));
-}
-
-#[test]
-fn items_of_no_bytes_are_skipped_at_once(rt: HostRuntime) {
     all_right(&rt, first_misskipped(rt.alloc(), &OF_NO_BYTES));
 }
