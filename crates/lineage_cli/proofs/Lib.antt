@@ -1,7 +1,8 @@
 pub mod OutputLemmas
 pub mod LineLemmas
 pub mod PrintLemmas
-pub mod RunLemmas
+pub mod InputLemmas
+pub mod AnswersLemmas
 pub mod RowsLemmas
 pub mod AuditLemmas
-pub mod StoredLemmas
+pub mod CompleteLemmas

@@ -3,7 +3,6 @@ use Rattle.std.proofs.Common.{◌≡◌, ℕ, ℤ, ◌+◌, ◌<◌, ◌≤◌, 
 use Rattle.std.proofs.Common.{sym, ap, ◌∙◌, subst, arith, append_assoc}
 use Rattle.std.specs.List.{flat_map}
 use Rattle.std.specs.Fmt.{signed_decimal}
-use Rattle.std.specs.Io.KnownBytes.{Appends}
 use Rattle.std.proofs.lemmas.List.{append-nil, drop_more, drop_all}
 use Rattle.std.proofs.lemmas.Grind.{flat_map-append}
 use Rattle.hex.specs.Hex.{encode_lower, encode_with}
@@ -12,42 +11,45 @@ use Rattle.pieces.specs.Number.{optional_text}
 use Rattle.row_pred.specs.Cells.{spaced_text, cells_text}
 use Rattle.row_types.specs.declared.cell_ref.CellRef.{CellRef}
 use Rattle.row_types.specs.CellRef.{lent_cell}
-use Rattle.lineage_cli.specs.Output.{AppendsFront}
+use Rattle.lineage_cli.specs.Output.{Gains, AppendsFront}
 use Rattle.cell_text.specs.Cell.{cell_text, most_bytes}
 use Rattle.lineage_cli.specs.RowLine.{most_cells}
 use Rattle.pieces.specs.Literal.{escape}
 use Rattle.lineage_cli.specs.declared.output.Form.{Form}
-use Rattle.lineage_cli.specs.declared.output.Form.TheVariants.{Escaped, Digits}
+use Rattle.lineage_cli.specs.declared.output.Form.TheVariants.{Plain, Escaped, Digits}
 use Rattle.lineage_cli.specs.Text.{spaced, row_line, lines, part_text}
-use Rattle.lineage_cli.proofs.OutputLemmas.{appends_none, appends_then, begins_then, begins_more}
+use Rattle.lineage_cli.proofs.OutputLemmas.{gains_then, front_more, front_then, shows_none}
 
 -- what was put so far, and what is still to put, are the text
-pub record IsBegun (start now : Option (List ℕ)) (rest text : List ℕ) : Type 0 where
+pub record IsBegun (start : Option (List ℕ)) (waiting : List ℕ) (now : Option (List ℕ)) (waits rest text : List ℕ) : Type 0 where
   pub before : List ℕ
   pub whole : before ++ rest ≡ text
-  pub so_far : Appends start now before
+  pub so_far : Gains start now (waiting ++ before) waits
 
 -- nothing was put
-pub begun_none : (start : Option (List ℕ)) (text : List ℕ) → IsBegun start start text text
-begun_none start text = record { before = []; whole = refl; so_far = appends_none start }
+pub begun_none : (start : Option (List ℕ)) (waiting text : List ℕ) → IsBegun start waiting start waiting text text
+begun_none start waiting text = record { before = []; whole = refl; so_far = shows_none start waiting }
 
 -- a piece is put
-pub begun_more : (start mid now : Option (List ℕ)) (rest piece others text : List ℕ) → rest ≡ piece ++ others → IsBegun start mid rest text → Appends mid now piece → IsBegun start now others text
-begun_more start mid now rest piece others text is begun more = record {
+pub begun_more : (start mid now : Option (List ℕ)) (waiting v u rest piece others text : List ℕ) → rest ≡ piece ++ others → IsBegun start waiting mid v rest text → Gains mid now (v ++ piece) u → IsBegun start waiting now u others text
+begun_more start mid now waiting v u rest piece others text is begun more = record {
   before = begun.before ++ piece;
   whole = append_assoc begun.before piece others ∙ (ap (λ (l : List ℕ). begun.before ++ l) (sym is) ∙ begun.whole);
-  so_far = appends_then start mid now begun.before piece begun.so_far more;
+  so_far = subst (λ (l : List ℕ). Gains start now l u) (append_assoc waiting begun.before piece) (gains_then start mid now (waiting ++ begun.before) piece v u begun.so_far more);
 }
 
 -- a front of a piece is put
-pub begun_stops : (start mid now : Option (List ℕ)) (rest piece others text : List ℕ) → rest ≡ piece ++ others → IsBegun start mid rest text → AppendsFront mid now piece → AppendsFront start now text
-begun_stops start mid now rest piece others text is begun front =
-    subst (λ (l : List ℕ). AppendsFront start now l) (ap (λ (l : List ℕ). begun.before ++ l) (sym is) ∙ begun.whole) (begins_then start mid now begun.before (piece ++ others) begun.so_far (begins_more mid now piece others front))
+pub begun_stops : (start mid now : Option (List ℕ)) (waiting v rest piece others text : List ℕ) → rest ≡ piece ++ others → IsBegun start waiting mid v rest text → AppendsFront mid now (v ++ piece) → AppendsFront start now (waiting ++ text)
+begun_stops start mid now waiting v rest piece others text is begun front =
+    let some = front_then start mid now (waiting ++ begun.before) piece v begun.so_far front in
+    let parts : ((waiting ++ begun.before) ++ piece) ++ others ≡ waiting ++ text =
+    append_assoc (waiting ++ begun.before) piece others ∙ (append_assoc waiting begun.before (piece ++ others) ∙ ap (λ (l : List ℕ). waiting ++ l) (ap (λ (l : List ℕ). begun.before ++ l) (sym is) ∙ begun.whole)) in
+    subst (λ (l : List ℕ). AppendsFront start now l) parts (front_more start now ((waiting ++ begun.before) ++ piece) others some)
 
 -- nothing is left to put
-pub begun_whole : (start now : Option (List ℕ)) (rest text : List ℕ) → rest ≡ [] → IsBegun start now rest text → Appends start now text
-begun_whole start now rest text none begun =
-    subst (λ (l : List ℕ). Appends start now l) (sym (append-nil begun.before) ∙ (ap (λ (l : List ℕ). begun.before ++ l) (sym none) ∙ begun.whole)) begun.so_far
+pub begun_whole : (start now : Option (List ℕ)) (waiting waits rest text : List ℕ) → rest ≡ [] → IsBegun start waiting now waits rest text → Gains start now (waiting ++ text) waits
+begun_whole start now waiting waits rest text none begun =
+    subst (λ (l : List ℕ). Gains start now (waiting ++ l) waits) (sym (append-nil begun.before) ∙ (ap (λ (l : List ℕ). begun.before ++ l) (sym none) ∙ begun.whole)) begun.so_far
 
 -- ---- part by part
 
@@ -59,12 +61,14 @@ digits_more (byte ∷ part) behind = rw (digits_more part behind) refl
 
 -- a part, and those behind it
 pub parts_next : (form : Form) (rest part behind : List ℕ) → rest ≡ part ++ behind → part_text form rest ≡ part_text form part ++ part_text form behind
+parts_next Plain rest part behind is = is
 parts_next Escaped rest part behind is = rw is (flat_map-append escape part behind)
 parts_next Digits rest part behind is = rw is (digits_more part behind)
 
 -- no part is left
 pub parts_end : (form : Form) (rest : List ℕ) → length rest ≤ 0 → part_text form rest ≡ []
 unfolding encode_with
+parts_end Plain [] none = refl
 parts_end Escaped [] none = refl
 parts_end Digits [] none = refl
 parts_end form (byte ∷ rest) none = absurd (omega (arith, none))

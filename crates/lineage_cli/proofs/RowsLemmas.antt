@@ -1,62 +1,65 @@
--- How `rows` may end: by a refusal of the file, or with a line for each row.
-use Rattle.std.proofs.Common.{◌≡◌, ℕ, Bool, true, false, pos, List, Option, Result, Ok, Err, refl, sym, ap}
-use Rattle.std.proofs.Common.{option_map}
+-- What `rows` answers.
+use Rattle.std.proofs.Common.{◌≡◌, ℕ, Bool, true, false, pos, List, Option, Some, None, Ok, Err, refl, option_map, inl}
 use Rattle.std.specs.Bool.{OnFalse}
-use Rattle.words.specs.Reading.{◌>>=◌, map_refusal}
-use Rattle.words.specs.Laws.{refused_so}
+use Rattle.lt_port.specs.Streams.{Outgoing}
+use Rattle.row_types.specs.declared.column.Column.{Column}
 use Rattle.row_types.specs.declared.row.Row.{Row}
+use Rattle.row_types.specs.declared.row.StoredRow.{StoredRow}
 use Rattle.stored_rows.specs.declared.refusal.RowRefusal.{RowRefusal}
 use Rattle.stored_rows.specs.Refusal.{is_memory as wants_memory}
-use Rattle.row_reading.specs.OwnRows.{own_rows_of}
-use Rattle.lineage_cli.specs.declared.command.Command.TheVariants.{Rows}
+use Rattle.stored_rows.specs.Stored.{StoresRows, AreRead}
+use Rattle.row_reading.specs.Columns.{file_columns_of}
+use Rattle.row_reading.specs.File.{file_size}
+use Rattle.row_reading.specs.OwnRows.{own_rows_of, ReadsOwnRows}
 use Rattle.lineage_cli.specs.declared.ending.Ending.{Ending}
-use Rattle.lineage_cli.specs.declared.ending.Ending.TheVariants.{Table}
-use Rattle.lineage_cli.specs.Rows.{file_rows}
-use Rattle.lineage_cli.specs.Text.{lines}
-use Rattle.lineage_cli.specs.Run.{answer_of, is_memory}
-use Rattle.lineage_cli.proofs.RunLemmas.{is_answer}
+use Rattle.lineage_cli.specs.declared.ending.Ending.TheVariants.{Usage, InputFault, InputLimit, Input, Table, Illegal, OutFault, Memory}
+use Rattle.lineage_cli.specs.Answers.{Prints}
+use Rattle.lineage_cli.specs.Command.Rows.{file_rows, HasRows, RowsAnswer}
+use Rattle.lineage_cli.specs.Ending.{class_of}
+use Rattle.lineage_cli.specs.Leaves.{LeavesOutput}
+use Rattle.lineage_cli.specs.Run.{is_memory}
+use Rattle.lineage_cli.proofs.AnswersLemmas.{keeps_still}
 
--- a file that is refused, or for which memory ran out, as the run's ending
-pub refused_file : {A : Type 0} (read : Result A RowRefusal) (refusal : RowRefusal) (ending : Ending) → OnFalse (wants_memory refusal) (read ≡ Err refusal) → is_memory ending ≡ wants_memory refusal → OnFalse (wants_memory refusal) (ending ≡ Table refusal)
-    → OnFalse (is_memory ending) (map_refusal Table read ≡ Err ending)
-refused_file read refusal ending refused same table = rw same (both (wants_memory refusal) refused table)
+-- the rows were read
+pub has_rows : (first : Option ℕ) (sequence : ℕ) (bytes : List ℕ) (rows : List Row) → own_rows_of bytes (option_map pos first) (pos sequence) ≡ Ok rows → ReadsOwnRows bytes (option_map pos first) (pos sequence) rows
+    → HasRows first sequence bytes rows
+unfolding file_rows
+has_rows first sequence bytes rows read stored = record { read = read; stored = stored }
+
+-- the file was refused, and what it stores would have been read
+pub is_refused : (answer : List StoredRow → List Row) (first : Option ℕ) (sequence : ℕ) (bytes : List ℕ) (refusal : RowRefusal) (ending : Ending)
+    → OnFalse (wants_memory refusal) (own_rows_of bytes (option_map pos first) (pos sequence) ≡ Err refusal)
+    → ((columns : List Column) (stored : List StoredRow) → file_columns_of bytes ≡ Ok columns → StoresRows bytes columns stored → AreRead (option_map pos first) None (file_size bytes stored)
+    → OnFalse (wants_memory refusal) (Ok (answer stored) ≡ Err refusal))
+    → is_memory ending ≡ wants_memory refusal → OnFalse (wants_memory refusal) (ending ≡ Table refusal)
+    → OnFalse (is_memory ending) (RowsAnswer first sequence bytes (Err ending))
+unfolding file_rows
+is_refused answer first sequence bytes refusal ending read only same table = rw same (both (wants_memory refusal) read only table)
   where
-    both : (free : Bool) → OnFalse free (read ≡ Err refusal) → OnFalse free (ending ≡ Table refusal) → OnFalse free (map_refusal Table read ≡ Err ending)
-    both true refused table = tt
-    both false refused table = rw (refused, table) refl
+    both : (free : Bool) → OnFalse free (own_rows_of bytes (option_map pos first) (pos sequence) ≡ Err refusal)
+        → ((columns : List Column) (stored : List StoredRow) → file_columns_of bytes ≡ Ok columns → StoresRows bytes columns stored → AreRead (option_map pos first) None (file_size bytes stored) → OnFalse free (Ok (answer stored) ≡ Err refusal))
+        → OnFalse free (ending ≡ Table refusal) → OnFalse free (RowsAnswer first sequence bytes (Err ending))
+    both true read only table = tt
+    both false read only table = rw table (record { read = read; none = λ s. absurd (cc (only s.columns s.rows s.own s.stores s.readable)) })
 
--- the answer for rows that were read, or refused
-abbrev rows_answer : Result (List Row) RowRefusal → Result (List ℕ) Ending
-rows_answer read = map_refusal Table read >>= λ rows. Ok (lines rows)
+-- nothing is printed of a file that is refused
+pub refused_prints : (first : Option ℕ) (sequence : ℕ) (bytes : List ℕ) (ending : Ending) (before : Option (List ℕ)) → OnFalse (is_memory ending) (RowsAnswer first sequence bytes (Err ending)) → Prints (RowsAnswer first sequence bytes) before before (Err ending)
+refused_prints first sequence bytes Memory before refused = inl (keeps_still before)
+refused_prints first sequence bytes (Table refusal) before refused = refused
+refused_prints first sequence bytes Usage before refused = absurd refused
+refused_prints first sequence bytes InputFault before refused = absurd refused
+refused_prints first sequence bytes (InputLimit found) before refused = absurd refused
+refused_prints first sequence bytes (Input line) before refused = absurd refused
+refused_prints first sequence bytes (Illegal entry rule) before refused = absurd refused
+refused_prints first sequence bytes OutFault before refused = absurd refused
 
-by_rows : (read : Result (List Row) RowRefusal) (ending : Ending) → rows_answer read ≡ Err ending → is_answer ending ≡ true
-by_rows (Ok rows) ending refused = absurd cc
-by_rows (Err why) ending refused = let e : Table why ≡ ending = cc in sym (ap is_answer e)
-
--- the run ends by its answer
-pub rows_answers : (first : Option ℕ) (sequence : ℕ) (bytes : List ℕ) (ending : Ending) → answer_of (Rows first sequence) bytes ≡ Err ending → is_answer ending ≡ true
-rows_answers first sequence bytes ending refused = by_rows (file_rows first sequence bytes) ending refused
-
--- ---- the rows are refused
-
-by_refusal : (read : Result (List Row) RowRefusal) (ending : Ending) → map_refusal Table read ≡ Err ending → rows_answer read ≡ Err ending
-by_refusal (Ok rows) ending refused = absurd cc
-by_refusal (Err why) ending refused = cc
-
--- the answer of a file that is refused, or for which memory ran out
-pub without_rows : (first : Option ℕ) (sequence : ℕ) (bytes : List ℕ) (ending : Ending)
-    → OnFalse (is_memory ending) (map_refusal Table (own_rows_of bytes (option_map pos first) (pos sequence)) ≡ Err ending) → OnFalse (is_memory ending) (answer_of (Rows first sequence) bytes ≡ Err ending)
-unfolding file_rows
-without_rows first sequence bytes ending refused = refused_so (is_memory ending) (by_refusal (own_rows_of bytes (option_map pos first) (pos sequence)) ending) refused
-
--- ---- the rows are there
-
-by_lines : (read : Result (List Row) RowRefusal) (rows : List Row) → map_refusal Table read ≡ Ok rows → rows_answer read ≡ Ok (lines rows)
-by_lines (Ok found) rows read = ap (λ (rs : List Row). Ok (lines rs)) cc
-by_lines (Err why) rows read = absurd cc
-
--- the answer of a file that has these rows
-pub with_rows : (first : Option ℕ) (sequence : ℕ) (bytes : List ℕ) (rows : List Row) → map_refusal Table (own_rows_of bytes (option_map pos first) (pos sequence)) ≡ Ok rows
-    → answer_of (Rows first sequence) bytes ≡ Ok (lines rows)
-unfolding file_rows
-with_rows first sequence bytes rows read = by_lines (own_rows_of bytes (option_map pos first) (pos sequence)) rows read
+-- and the output is left as it is
+pub refused_leaves : (first : Option ℕ) (sequence : ℕ) (bytes : List ℕ) (ending : Ending) (out : Outgoing) → OnFalse (is_memory ending) (RowsAnswer first sequence bytes (Err ending)) → LeavesOutput (Some (class_of ending)) out out
+refused_leaves first sequence bytes Memory out refused = inl refl
+refused_leaves first sequence bytes (Table refusal) out refused = refl
+refused_leaves first sequence bytes Usage out refused = absurd refused
+refused_leaves first sequence bytes InputFault out refused = absurd refused
+refused_leaves first sequence bytes (InputLimit found) out refused = absurd refused
+refused_leaves first sequence bytes (Input line) out refused = absurd refused
+refused_leaves first sequence bytes (Illegal entry rule) out refused = absurd refused
+refused_leaves first sequence bytes OutFault out refused = absurd refused

@@ -1,17 +1,21 @@
--- What the words of a command line ask for.
-use Rattle.std.specs.Prelude.{◌≡◌, ℕ, ◌^◌, ◌<◌, List, [], ◌∷◌, Option, Some, None, IfSome, codes, decimal}
+-- What the words of a command line ask for, and what each command does. A new command has a line in both definitions,
+-- and what it does in a file of its own.
+pub mod Rows
+pub mod Audit
+use Rattle.std.specs.Prelude.{ℕ, List, Result}
 use Rattle.lineage_cli.specs.declared.command.Command.{Command}
-use Rattle.lineage_cli.specs.declared.command.Command.TheVariants.{Rows, Audit}
+use Rattle.lineage_cli.specs.declared.command.Command.TheVariants as commands
+use Rattle.lineage_cli.specs.declared.ending.Ending.{Ending}
+use Rattle.lineage_cli.specs.Outside.{Outside}
+use Rattle.lineage_cli.specs.Command.Rows.{AsksRows, ServesRows}
+use Rattle.lineage_cli.specs.Command.Audit.{AsksAudit, ServesAudit}
 
--- the word of a first row id: the id in decimal without sign or leading zero, or - if there is none
-abbrev pub first_word : Option ℕ → List ℕ
-first_word None = codes "-"
-first_word (Some id) = decimal id
-
--- the words have the form of this command: its name, and for rows a first row id, perhaps none,
--- and a sequence number in decimal
+-- the words have the form of this command
 abbrev pub Asks : List (List ℕ) → Command → Type 0
-Asks words (Rows first sequence) =
-    IfSome first (λ id. id < 2 ^ 63) × (sequence < 2 ^ 63)
-    × (words ≡ codes "rows" ∷ first_word first ∷ decimal sequence ∷ [])
-Asks words Audit = words ≡ codes "audit" ∷ []
+Asks words (commands.Rows first sequence) = AsksRows words first sequence
+Asks words commands.Audit = AsksAudit words
+
+-- what a command does to the outside, and how its run ends
+abbrev pub Serves : Command → Outside → Outside → Result (Unit {0}) Ending → Type 0
+Serves (commands.Rows first sequence) = ServesRows first sequence
+Serves commands.Audit = ServesAudit

@@ -1,8 +1,10 @@
 -- How a run ends that doesn't answer: its class, its status, and its one line.
-use Rattle.std.specs.Prelude.{ℕ, List, [], ◌++◌, codes, decimal}
+use Rattle.std.specs.Prelude.{ℕ, List, [], ◌++◌, Result, Ok, Err, codes, decimal}
 use Rattle.limits.specs.Which.{name_of as name_of_limit}
 use Rattle.limits.specs.declared.which.Which.TheVariants as limits
 use Rattle.lineage_model.specs.RuleName.{name_of}
+use Rattle.lt_port.specs.declared.failure.PortError.{PortError}
+use Rattle.lt_port.specs.declared.failure.PortError.TheVariants as ports
 use Rattle.refusal_text.specs.Told.{spaced}
 use Rattle.avro_container.specs.declared.refusal.ContainerRefusal.{ContainerRefusal}
 use Rattle.avro_container.specs.declared.refusal.ContainerRefusal.TheVariants as containers
@@ -81,3 +83,9 @@ ending_text (Illegal entry rule) = codes "Illegal " ++ (decimal entry ++ (codes 
 abbrev pub line_of : Ending → List ℕ
 line_of ending =
     codes "rowline: " ++ (class_word (class_of ending) ++ (spaced (ending_text ending) ++ codes "\n"))
+
+-- how a run ended whose answer was printed so
+abbrev pub printed_so : Result (Unit {0}) PortError → Result (Unit {0}) Ending
+printed_so (Ok done) = Ok done
+printed_so (Err ports.Failed) = Err OutFault
+printed_so (Err ports.Memory) = Err Memory

@@ -8,7 +8,7 @@ use Rattle.pieces.specs.Number.{optional_text}
 use Rattle.pieces.specs.Literal.{escape}
 use Rattle.row_pred.specs.Cells.{cells_text}
 use Rattle.lineage_cli.specs.declared.output.Form.{Form}
-use Rattle.lineage_cli.specs.declared.output.Form.TheVariants.{Escaped, Digits}
+use Rattle.lineage_cli.specs.declared.output.Form.TheVariants.{Plain, Escaped, Digits}
 
 -- a piece, and a space after it
 abbrev pub spaced : List ℕ → List ℕ
@@ -23,7 +23,8 @@ row_line row =
 abbrev pub lines : List Row → List ℕ
 lines rows = flat_map row_line rows
 
--- a part of a long cell: of a text as it is written between quotes, of bytes in hexadecimal
+-- a part of bytes in this form: as they are, as a text is written between quotes, or in hexadecimal
 abbrev pub part_text : Form → List ℕ → List ℕ
+part_text Plain part = part
 part_text Escaped part = flat_map escape part
 part_text Digits part = encode_lower part

@@ -1,10 +1,17 @@
-//! What the words of a command line ask for.
+//! What the words of a command line ask for, and doing it. Each command has a module of its own.
 
-ghost use Rattle.std.specs.Prelude.{◌≡◌, ◌^◌, ◌<◌, ℕ, Option, decimal, IfSome, MatchOption};
-ghost use Rattle.lineage_cli.specs.Command.{first_word, Asks};
+ghost use Rattle.std.specs.Prelude.{MatchOption};
+ghost use Rattle.lt_port.specs.Streams.{Outgoing};
+ghost use Rattle.lineage_cli.specs.Command.{Asks};
+ghost use Rattle.lineage_cli.specs.Run.{IsServed};
 
+mod audit;
+mod rows;
+
+use crate::ending::Ending;
 use avro_wire::Text;
-use itoa::Buffer;
+use lt_port::{Sink, Source};
+use std::alloc::Global;
 
 /// A command and its arguments.
 #[derive(Clone, Copy)]
@@ -22,45 +29,29 @@ pub fn command_of(words: &[Text]) -> Option<Command>
         ((command : _) → Asks words.now command → ⊥)
         (λ command. Asks words.now command) }
 {
-    match words {
-        [name, first, sequence] if name.as_str() == "rows" => {
-            let first = first_id(first.as_str())?;
-            let sequence = natural(sequence.as_str())?;
-            Some(Command::Rows { first, sequence })
-        }
-        [name] if name.as_str() == "audit" => Some(Command::Audit),
-        _ => None,
+    if let Some((first, sequence)) = rows::asked(words) {
+        return Some(Command::Rows { first, sequence });
     }
+    if audit::is_asked(words) {
+        return Some(Command::Audit);
+    }
+    None
 }
 
-/// The first row id that the word stands for: a number of 63 bits, or `-` for none. `None` if
-/// it stands for neither.
-fn first_id(word: &str) -> Option<Option<u64>>
-    ensures { MatchOption result
-        ((first : Option ℕ) → IfSome first (λ id. id < 2 ^ 63) → word.now ≡ first_word first → ⊥)
-        (λ first. IfSome first (λ id. id < 2 ^ 63) × (word.now ≡ first_word first)) }
+/// Does what the words ask for.
+pub fn serve<S: Source, W: Sink>(
+    alloc: Global,
+    words: &[Text],
+    input: &mut S,
+    out: &mut W,
+) -> Result<(), Ending>
+    ensures { (error : Outgoing) → IsServed words.now
+        (record { input = S.seen input.old; output = W.seen out.old; error = error })
+        (record { input = S.seen input.new; output = W.seen out.new; error = error }) result }
 {
-    if word == "-" {
-        return Some(None);
-    }
-    Some(Some(natural(word)?))
-}
-
-/// The number of 63 bits that the word is the decimal text of, without sign or leading zero; None
-/// if it is none.
-fn natural(word: &str) -> Option<u64>
-    ensures { MatchOption result
-        ((n : ℕ) → n < 2 ^ 63 → word.now ≡ decimal n → ⊥)
-        (λ number. (number < 2 ^ 63) × (word.now ≡ decimal number)) }
-{
-    let number = word.parse::<u64>().ok()?;
-    if number > i64::MAX as u64 {
-        return None;
-    }
-    let mut buffer = Buffer::new();
-    if buffer.format(number) == word {
-        Some(number)
-    } else {
-        None
+    match command_of(words) {
+        None => Err(Ending::Usage),
+        Some(Command::Rows { first, sequence }) => rows::serve(alloc, first, sequence, input, out),
+        Some(Command::Audit) => audit::serve(alloc, input, out),
     }
 }

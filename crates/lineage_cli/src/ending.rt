@@ -1,16 +1,17 @@
 //! How a run ends that doesn't answer: its status, and its one line.
 
-ghost use Rattle.std.specs.Prelude.{◌≡◌, decimal, IsErrOf};
-ghost use Rattle.lt_port.specs.Faults.{HasCause};
+ghost use Rattle.std.specs.Prelude.{◌≡◌, [], decimal};
+ghost use Rattle.lt_port.specs.Streams.{counts_after};
 ghost use Rattle.refusal_text.specs.Told.{told_text, spaced};
 ghost use Rattle.lineage_cli.specs.Ending as spec;
-ghost use Rattle.lineage_cli.specs.Ending.{status_of as status, line_of, ending_text};
-ghost use Rattle.lineage_cli.specs.Output.{Puts};
+ghost use Rattle.lineage_cli.specs.Ending.{status_of as status, line_of, ending_text, printed_so};
+ghost use Rattle.lineage_cli.specs.Output.{Puts, Shows};
 ghost use Rattle.lineage_cli.specs.Run.{IsTold};
 
 use crate::class::{Class, RefusalClass, class_word, status_of_class};
-use crate::line::write_told;
-use crate::output::write_all;
+use crate::line::put_told;
+use crate::output::{Buffer, flush, put};
+use crate::parts::put_plain;
 use avro_container::ContainerRefusal;
 use avro_schema::SchemaRefusal;
 use datum_reading::DatumRefusal;
@@ -18,7 +19,6 @@ use limits::Which;
 use lineage_model::Rule;
 use lt_port::{PortError, Sink};
 use refusal_text::Told;
-use std::alloc::Global;
 use stored_rows::RowRefusal;
 
 /// Why a run doesn't answer.
@@ -50,13 +50,24 @@ pub fn status_of(ending: &Ending) -> u8
     status_of_class(class_of(ending))
 }
 
-/// Writes the line, or the beginning of it where `err` fails: that is ignored.
-pub fn tell<E: Sink>(alloc: Global, err: &mut E, ending: &Ending)
-    ensures { IsTold (line_of ending.now)
-        (record { bytes = E.written err.old; faults = E.faults err.old })
-        (record { bytes = E.written err.new; faults = E.faults err.new }) }
+/// Writes the line. If `err` fails or wants memory, a front of the line may be written, and the counts
+/// of `err` tell so.
+pub fn tell<E: Sink>(err: &mut E, ending: &Ending)
+    ensures { IsTold (line_of ending.now) (E.seen err.old) (E.seen err.new) }
 {
-    let _ = write_line(alloc, err, ending);
+    let mut buffer = Buffer::new();
+    let _ = write_line(err, &mut buffer, ending);
+}
+
+/// How a run ended that printed its answer, as far as it could be printed.
+pub fn printed(done: Result<(), PortError>) -> Result<(), Ending>
+    ensures { result ≡ printed_so done }
+{
+    match done {
+        Ok(()) => Ok(()),
+        Err(PortError::Failed) => Err(Ending::OutFault),
+        Err(PortError::Memory) => Err(Ending::Memory),
+    }
 }
 
 /// The class of an ending.
@@ -91,16 +102,27 @@ fn table_class(refusal: &RowRefusal) -> RefusalClass
     }
 }
 
-/// Writes the line, as far as it can be written.
-fn write_line<E: Sink>(alloc: Global, err: &mut E, ending: &Ending) -> Result<(), PortError>
-    ensures text { Puts (E.written err.old) (E.written err.new) result (line_of ending.now) }
-    ensures cause { HasCause (E.faults err.old) (E.faults err.new)
-        (IsErrOf result PortError.Failed) }
+/// Writes the line through a buffer in which nothing waits, as far as it can be written.
+fn write_line<E: Sink>(err: &mut E, buffer: &mut Buffer, ending: &Ending) -> Result<(), PortError>
+    requires { buffer.old ≡ [] }
+    ensures text { Puts (E.seen err.old).written (E.seen err.new).written result
+        (line_of ending.now) }
+    ensures counted { (E.seen err.new).counts ≡ counts_after result (E.seen err.old).counts }
 {
-    write_all(err, b"rowline: ")?;
-    write_all(err, class_word(class_of(ending)))?;
-    write_told(alloc, err, told_of(ending))?;
-    write_all(err, b"\n")
+    put_line(err, buffer, ending)?;
+    flush(err, buffer)
+}
+
+/// Puts the line.
+fn put_line<E: Sink>(err: &mut E, buffer: &mut Buffer, ending: &Ending) -> Result<(), PortError>
+    ensures text { Shows (E.seen err.old).written buffer.old
+        (E.seen err.new).written buffer.new result (line_of ending.now) }
+    ensures counted { (E.seen err.new).counts ≡ counts_after result (E.seen err.old).counts }
+{
+    put(err, buffer, b"rowline: ")?;
+    put_plain(err, buffer, class_word(class_of(ending)))?;
+    put_told(err, buffer, told_of(ending))?;
+    put(err, buffer, b"\n")
 }
 
 /// What the line has after the word of the class.

@@ -2,27 +2,28 @@
 //!
 //! | Module | What it has |
 //! |---|---|
-//! | `command` | what the words of a command line ask for |
 //! | `run` | a run of the program over any source and sinks |
-//! | `input`, `output` | reading a source to its end, writing text to a sink |
-//! | `rows` | answering with the rows of a data file |
-//! | `audit` | answering whether the history of a report is legal |
-//! | `printing` | printing rows, one line each |
-//! | `row_line` | the line of a row, put into a slice |
+//! | `laws` | what follows for every run |
+//! | `command` | what the words of a command line ask for, and doing it: a module for each command |
+//! | `natural` | the number that a word stands for |
 //! | `ending`, `class` | the status and the line of a run that doesn't answer |
-//! | `line` | writing the text of a refusal to a sink |
+//! | `line` | the text of a refusal |
+//! | `printing`, `row_line` | the lines of rows |
+//! | `parts` | bytes that may be longer than the buffer |
+//! | `input`, `output` | reading a source to its end, writing text to a sink |
 #![tactic(auto)]
 
-mod audit;
 mod class;
 mod command;
 mod ending;
 mod input;
+pub mod laws;
 mod line;
+mod natural;
 mod output;
+mod parts;
 mod printing;
 mod row_line;
-mod rows;
 mod run;
 
 pub use ending::{Ending, status_of, tell};

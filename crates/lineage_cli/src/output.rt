@@ -1,38 +1,38 @@
 //! Writing text to a sink: whole pieces, and through one buffer.
 
-ghost use Rattle.std.specs.Prelude.{◌≡◌, ◌+◌, ◌*◌, ◌≤◌, ℕ, List, [], ◌++◌, length, map, take};
-ghost use Rattle.std.specs.Prelude.{IfOk, OnOk, IsErrOf};
+ghost use Rattle.std.specs.Prelude.{◌≡◌, ◌+◌, ◌*◌, ◌≤◌, ℕ, List, [], ◌++◌, length, map, take, OnOk};
 ghost use Rattle.std.specs.Fmt.{signed_decimal};
-ghost use Rattle.lt_port.specs.Faults.{HasCause};
+ghost use Rattle.lt_port.specs.Streams.{counts_after};
 ghost use Rattle.cell_text.specs.Cell.{cell_text, most_bytes as most_bytes_of};
 ghost use Rattle.row_types.specs.CellRef.{lent_cell};
-ghost use Rattle.lineage_cli.specs.Output.{Puts, Shows};
+ghost use Rattle.lineage_cli.specs.Output.{Puts, Moves, Shows};
 ghost use Rattle.pieces.specs.Number.{optional_text};
 ghost use Rattle.lineage_cli.specs.RowLine.{most_line};
 ghost use Rattle.lineage_cli.specs.Text.{spaced, row_line, part_text};
 
-use crate::input::zeros;
 use crate::row_line::{FRONT_BYTES, put_front, put_line};
 use cell_text::{put_cell, put_digits, put_escaped, put_piece};
 use lt_port::{PortError, Sink};
 use row_types::CellRef;
-use std::alloc::{AllocError, Global};
 use std::marker::Model;
 
 /// How many bytes wait in a buffer at most.
 pub const BUFFER_BYTES: usize = 65_536;
 
-/// How the bytes of a long cell are printed: as the text between quotes, or as digits.
+/// How bytes are printed that may be longer than the buffer: as they are, as the text between quotes,
+/// or as hexadecimal digits.
 #[derive(Clone, Copy)]
 pub enum Form {
+    Plain,
     Escaped,
     Digits,
 }
 
-/// The bytes that wait to be written, in room that is made once. Contracts see the list of them.
+/// The bytes that wait to be written. They are on the stack, so making a buffer takes no memory that
+/// may run out. Contracts see the list of them.
 #[derive(Drop)]
 pub struct Buffer {
-    room: Vec<u8>,
+    room: [u8; BUFFER_BYTES],
     /// How many bytes of the room wait.
     used: usize,
 }
@@ -43,19 +43,20 @@ impl Model for Buffer {
 
     ghost Value = { List ℕ };
 
-    ghost view = { λ b. take b.used b.room.items };
+    ghost view = { λ b. take b.used b.room };
 
-    ghost invariant = { λ b. (b.used ≤ length b.room.items)
-        × (length b.room.items ≡ BUFFER_BYTES) };
+    ghost invariant = { λ b. (b.used ≤ length b.room) × (length b.room ≡ BUFFER_BYTES) };
 }
 
 impl Buffer {
-    /// A buffer in which nothing waits. An `Err` says that memory ran out.
-    pub fn new(alloc: Global) -> Result<Buffer, AllocError>
-        ensures { IfOk result (λ buffer. buffer ≡ []) }
+    /// A buffer in which nothing waits.
+    pub fn new() -> Buffer
+        ensures { result ≡ [] }
     {
-        let room = zeros(alloc, BUFFER_BYTES)?;
-        Ok(Buffer { room, used: 0 })
+        Buffer {
+            room: [0; BUFFER_BYTES],
+            used: 0,
+        }
     }
 
     /// Appends the piece to what waits.
@@ -103,12 +104,13 @@ impl Buffer {
         self.used = put_cell(&mut self.room, self.used, cell);
     }
 
-    /// Appends a part of a long cell to what waits.
+    /// Appends a part of the bytes, in this form, to what waits.
     pub fn push_part(&mut self, form: Form, part: &[u8])
         requires fits { length self.old + 2 * length part.now ≤ BUFFER_BYTES }
         ensures put { self.new ≡ self.old ++ part_text form part.now }
     {
         self.used = match form {
+            Form::Plain => put_piece(&mut self.room, self.used, part),
             Form::Escaped => put_escaped(&mut self.room, self.used, part),
             Form::Digits => put_digits(&mut self.room, self.used, part),
         };
@@ -117,9 +119,8 @@ impl Buffer {
 
 /// Writes the piece, all of it.
 pub fn write_all<W: Sink>(out: &mut W, piece: &[u8]) -> Result<(), PortError>
-    ensures text { Puts (W.written out.old) (W.written out.new) result piece.now }
-    ensures cause { HasCause (W.faults out.old) (W.faults out.new)
-        (IsErrOf result PortError.Failed) }
+    ensures text { Puts (W.seen out.old).written (W.seen out.new).written result piece.now }
+    ensures counted { (W.seen out.new).counts ≡ counts_after result (W.seen out.old).counts }
 {
     let mut at = 0;
     while at < piece.len() {
@@ -132,10 +133,9 @@ pub fn write_all<W: Sink>(out: &mut W, piece: &[u8]) -> Result<(), PortError>
 /// for the piece.
 pub fn put<W: Sink>(out: &mut W, buffer: &mut Buffer, piece: &[u8]) -> Result<(), PortError>
     requires fits { length piece.now ≤ BUFFER_BYTES }
-    ensures text { Shows (W.written out.old) buffer.old
-        (W.written out.new) buffer.new result piece.now }
-    ensures cause { HasCause (W.faults out.old) (W.faults out.new)
-        (IsErrOf result PortError.Failed) }
+    ensures text { Shows (W.seen out.old).written buffer.old
+        (W.seen out.new).written buffer.new result piece.now }
+    ensures counted { (W.seen out.new).counts ≡ counts_after result (W.seen out.old).counts }
 {
     make_room(out, buffer, piece.len())?;
     buffer.push(piece);
@@ -146,11 +146,10 @@ pub fn put<W: Sink>(out: &mut W, buffer: &mut Buffer, piece: &[u8]) -> Result<()
 #[inline(always)]
 pub fn make_room<W: Sink>(out: &mut W, buffer: &mut Buffer, size: usize) -> Result<(), PortError>
     requires fits { size ≤ BUFFER_BYTES }
-    ensures text { Shows (W.written out.old) buffer.old
-        (W.written out.new) buffer.new result [] }
+    ensures text { Moves (W.seen out.old).written (W.seen out.new).written buffer.new
+        result buffer.old }
     ensures room { OnOk result (length buffer.new + size ≤ BUFFER_BYTES) }
-    ensures cause { HasCause (W.faults out.old) (W.faults out.new)
-        (IsErrOf result PortError.Failed) }
+    ensures counted { (W.seen out.new).counts ≡ counts_after result (W.seen out.old).counts }
 {
     if size > BUFFER_BYTES - buffer.used {
         return flush(out, buffer);
@@ -161,10 +160,9 @@ pub fn make_room<W: Sink>(out: &mut W, buffer: &mut Buffer, size: usize) -> Resu
 /// Writes what waits in the buffer.
 #[inline(never)]
 pub fn flush<W: Sink>(out: &mut W, buffer: &mut Buffer) -> Result<(), PortError>
-    ensures text { Puts (W.written out.old) (W.written out.new) result buffer.old }
+    ensures text { Puts (W.seen out.old).written (W.seen out.new).written result buffer.old }
     ensures emptied { OnOk result (buffer.new ≡ []) }
-    ensures cause { HasCause (W.faults out.old) (W.faults out.new)
-        (IsErrOf result PortError.Failed) }
+    ensures counted { (W.seen out.new).counts ≡ counts_after result (W.seen out.old).counts }
 {
     write_all(out, &buffer.room[..buffer.used])?;
     buffer.used = 0;

@@ -1,11 +1,11 @@
 //! A sink in memory.
 
 ghost use Rattle.std.specs.Prelude.{◌≡◌, ◌+◌, ◌≤◌, ◌<◌, ◌↔◌, [], Contains, length, min};
-ghost use Rattle.std.specs.Prelude.{Some, IfOk, IsErrOf, MatchResult};
+ghost use Rattle.std.specs.Prelude.{Some, IfOk, IsErrOf};
 ghost use Rattle.std.specs.Io.{WritesAtMost};
 ghost use Rattle.std.specs.Io.KnownBytes.{WriteAppends};
-ghost use Rattle.lt_port.specs.Faults.{HasCause};
-ghost use Rattle.lt_port.specs.Memory.{SinkState, one_more, faults_after};
+ghost use Rattle.lt_port.specs.Memory.{SinkState};
+ghost use Rattle.lt_port.specs.Streams.{one_more, counts_after};
 
 use crate::calls::next_fails;
 use crate::{PortError, Sink};
@@ -20,6 +20,7 @@ pub struct MemSink {
     failing: Vec<u64>,
     calls: u64,
     faults: u64,
+    wants: u64,
 }
 
 impl Model for MemSink {
@@ -30,7 +31,7 @@ impl Model for MemSink {
       piece = s.piece;
       failing = s.failing.items;
       calls = s.calls;
-      faults = s.faults;
+      counts = record { faults = s.faults; wants = s.wants };
     } };
 
     ghost invariant = { λ s. 1 ≤ s.piece };
@@ -46,7 +47,7 @@ impl MemSink {
           piece = piece;
           failing = failing.items;
           calls = 0;
-          faults = 0;
+          counts = record { faults = 0; wants = 0 };
         } }
     {
         MemSink {
@@ -55,6 +56,7 @@ impl MemSink {
             failing,
             calls: 0,
             faults: 0,
+            wants: 0,
         }
     }
 
@@ -67,17 +69,14 @@ impl MemSink {
 }
 
 impl Sink for MemSink {
-    ghost written = { λ s. Some s.written };
-
-    ghost faults = { λ s. s.faults };
+    ghost seen = { λ s. record { written = Some s.written; counts = s.counts } };
 
     fn write(&mut self, piece: &[u8]) -> Result<usize, PortError>
         ensures bound { WritesAtMost result piece.now }
         ensures some { 0 < length piece.now → IfOk result (λ count. 0 < count) }
         ensures bytes { WriteAppends (Some self.old.written) (Some self.new.written)
             result piece.now }
-        ensures cause { HasCause self.old.faults self.new.faults
-            (IsErrOf result PortError.Failed) }
+        ensures counted { self.new.counts ≡ counts_after result self.old.counts }
 
         // What a call takes.
         ensures amount { IfOk result (λ count. count ≡ min (length piece.now) self.old.piece) }
@@ -88,9 +87,6 @@ impl Sink for MemSink {
 
         // What else is changed.
         ensures calls { self.new.calls ≡ one_more self.old.calls }
-        ensures faults { MatchResult result
-            (λ _. self.new.faults ≡ self.old.faults)
-            (λ error. self.new.faults ≡ faults_after self.old.faults error) }
         ensures piece { self.new.piece ≡ self.old.piece }
         ensures failing { self.new.failing ≡ self.old.failing }
     {
@@ -103,7 +99,10 @@ impl Sink for MemSink {
         let count = piece.len().min(self.piece);
         match self.bytes.extend_from_slice(&piece[..count]) {
             Ok(()) => Ok(count),
-            Err(_) => Err(PortError::Memory),
+            Err(_) => {
+                self.wants = self.wants.saturating_add(1);
+                Err(PortError::Memory)
+            }
         }
     }
 }

@@ -1,11 +1,11 @@
 //! A source in memory.
 
 ghost use Rattle.std.specs.Prelude.{◌≡◌, ◌+◌, ◌≤◌, ◌++◌, ◌↔◌, Contains, length, min, take, drop};
-ghost use Rattle.std.specs.Prelude.{Some, IfOk, IsErr, OnErr, MatchResult};
+ghost use Rattle.std.specs.Prelude.{Some, IfOk, IsErr, OnErr};
 ghost use Rattle.std.specs.Io.{ReadsAtMost};
 ghost use Rattle.std.specs.Io.KnownBytes.{ReadConsumes};
-ghost use Rattle.lt_port.specs.Faults.{HasCause};
-ghost use Rattle.lt_port.specs.Memory.{SourceState, one_more};
+ghost use Rattle.lt_port.specs.Memory.{SourceState};
+ghost use Rattle.lt_port.specs.Streams.{one_more, faults_after};
 
 use crate::calls::next_fails;
 use crate::{Failed, Source};
@@ -61,14 +61,12 @@ impl MemSource {
 }
 
 impl Source for MemSource {
-    ghost left = { λ s. Some s.left };
-
-    ghost faults = { λ s. s.faults };
+    ghost seen = { λ s. record { left = Some s.left; faults = s.faults } };
 
     fn read(&mut self, room: &mut [u8]) -> Result<usize, Failed>
         ensures bound { ReadsAtMost result room.new }
         ensures bytes { ReadConsumes (Some self.old.left) (Some self.new.left) result room.new }
-        ensures cause { HasCause self.old.faults self.new.faults (IsErr result) }
+        ensures counted { self.new.faults ≡ faults_after result self.old.faults }
 
         // What a call gives.
         ensures amount { IfOk result (λ count.
@@ -82,9 +80,6 @@ impl Source for MemSource {
 
         // What else is changed.
         ensures calls { self.new.calls ≡ one_more self.old.calls }
-        ensures faults { MatchResult result
-            (λ _. self.new.faults ≡ self.old.faults)
-            (λ _. self.new.faults ≡ one_more self.old.faults) }
         ensures piece { self.new.piece ≡ self.old.piece }
         ensures failing { self.new.failing ≡ self.old.failing }
     {

@@ -1,9 +1,9 @@
 //! A reader as a source, such as standard input.
 
-ghost use Rattle.std.specs.Prelude.{◌≡◌, IsErr};
+ghost use Rattle.std.specs.Prelude.{◌≡◌};
 ghost use Rattle.std.specs.Io.{ReadsAtMost};
 ghost use Rattle.std.specs.Io.KnownBytes.{ReadConsumes};
-ghost use Rattle.lt_port.specs.Faults.{HasCause};
+ghost use Rattle.lt_port.specs.Streams.{faults_after};
 
 use crate::{Failed, Source};
 use std::io::{ErrorKind, Read};
@@ -25,15 +25,13 @@ impl<R: Read> ReaderSource<R> {
 }
 
 impl<R: Read> Source for ReaderSource<R> {
-    ghost left = { λ s. R.remaining s.reader };
-
-    ghost faults = { λ s. s.faults };
+    ghost seen = { λ s. record { left = R.remaining s.reader; faults = s.faults } };
 
     fn read(&mut self, room: &mut [u8]) -> Result<usize, Failed>
         ensures bound { ReadsAtMost result room.new }
         ensures bytes { ReadConsumes (R.remaining self.old.reader) (R.remaining self.new.reader)
             result room.new }
-        ensures cause { HasCause self.old.faults self.new.faults (IsErr result) }
+        ensures counted { self.new.faults ≡ faults_after result self.old.faults }
     {
         for _ in 0..u64::MAX {
             match self.reader.read(room) {

@@ -1,14 +1,15 @@
 //! A writer as a sink, such as standard output.
 
-ghost use Rattle.std.specs.Prelude.{◌≡◌, ◌<◌, length, IfOk, IsErrOf};
+ghost use Rattle.std.specs.Prelude.{◌≡◌, ◌<◌, length, IfOk};
 ghost use Rattle.std.specs.Io.{WritesAtMost};
 ghost use Rattle.std.specs.Io.KnownBytes.{WriteAppends};
-ghost use Rattle.lt_port.specs.Faults.{HasCause};
+ghost use Rattle.lt_port.specs.Streams.{never_wanting, counts_after};
 
 use crate::{PortError, Sink};
 use std::io::{ErrorKind, Write};
 
-/// A writer, as a sink. A call that a signal interrupts is made again.
+/// A writer, as a sink. A call that a signal interrupts is made again. No call wants memory of the
+/// run.
 #[derive(Drop)]
 pub struct WriterSink<W> {
     writer: W,
@@ -25,16 +26,14 @@ impl<W: Write> WriterSink<W> {
 }
 
 impl<W: Write> Sink for WriterSink<W> {
-    ghost written = { λ s. W.contents s.writer };
-
-    ghost faults = { λ s. s.faults };
+    ghost seen = { λ s. record { written = W.contents s.writer; counts = never_wanting s.faults } };
 
     fn write(&mut self, piece: &[u8]) -> Result<usize, PortError>
         ensures bound { WritesAtMost result piece.now }
         ensures some { 0 < length piece.now → IfOk result (λ count. 0 < count) }
         ensures bytes { WriteAppends (W.contents self.old.writer) (W.contents self.new.writer)
             result piece.now }
-        ensures cause { HasCause self.old.faults self.new.faults (IsErrOf result PortError.Failed) }
+        ensures counted { never_wanting self.new.faults ≡ counts_after result (never_wanting self.old.faults) }
     {
         for _ in 0..u64::MAX {
             match self.writer.write(piece) {

@@ -10,6 +10,7 @@
 //! | `audits` | `audit` of reports |
 //! | `outside` | calls that fail or move few bytes, and inputs at their limits |
 //! | `ports` | sources and sinks in memory, each through its trait |
+//! | `interrupted` | readers and writers whose first call is interrupted by a signal |
 #![tactic(auto)]
 
 #[cfg(test)]
@@ -18,6 +19,8 @@ mod audits;
 mod command_lines;
 #[cfg(test)]
 mod files;
+#[cfg(test)]
+mod interrupted;
 #[cfg(test)]
 mod lineage;
 #[cfg(test)]

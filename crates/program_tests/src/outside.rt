@@ -18,7 +18,7 @@ static CALLS: [(Outside, Case); 5] = [
     // The second write fails, and so does the second one of the line.
     (
         (10, &[], &[2], &[2]),
-        (ROWS, THREE_ROWS, 5, "1000 7 10 ", "rowline: "),
+        (ROWS, THREE_ROWS, 5, "1000 7 10 ", "rowline: f"),
     ),
     // Each call moves one byte.
     ((1, &[], &[], &[]), (ROWS, THREE_ROWS, 0, THREE_LINES, "")),

@@ -36,7 +36,7 @@ fn main(rt: HostRuntime) -> ExitCode {
     let status = match words_of(&rt) {
         Ok(words) => run_alone(alloc, &words, &mut input, &mut out, &mut err),
         Err(ending) => {
-            tell(alloc, &mut err, &ending);
+            tell(&mut err, &ending);
             status_of(&ending)
         }
     };

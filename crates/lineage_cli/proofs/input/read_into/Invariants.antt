@@ -1,13 +1,13 @@
-use Rattle.std.proofs.Common.{◌<◌, ◌+◌, ◌-◌, ◌≤◌, length}
+use Rattle.std.proofs.Common.{◌≡◌, ◌<◌, ◌+◌, ◌-◌, ◌≤◌, length}
 use Rattle.std.specs.Io.KnownBytes.{Consumes}
 use Rattle.lineage_cli.proofs.input.read_into.Given as goal
 
 abbrev pub invariant-loop-bytes : goal.invariant-loop-bytes
 invariant-loop-bytes g l = record {
-  so_far : Consumes (g.S.Source.left l.initial.input) (g.S.Source.left l.input) l.bytes.items;
+  so_far : Consumes (g.S.Source.seen l.initial.input).left (g.S.Source.seen l.input).left l.bytes.items;
   few : length l.bytes.items ≤ l.most + 1;
   room : 0 < length l.room;
-  later : g.S.Source.faults l.initial.input ≤ g.S.Source.faults l.input;
+  counted : (g.S.Source.seen l.input).faults ≡ (g.S.Source.seen l.initial.input).faults;
 }
 
 abbrev pub decreases-loop-bytes : goal.decreases-loop-bytes

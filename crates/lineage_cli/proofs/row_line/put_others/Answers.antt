@@ -1,6 +1,6 @@
-use Rattle.std.proofs.Common.{◌+◌, ◌≤◌, length, arith}
+use Rattle.std.proofs.Common.{arith}
 use Rattle.row_types.specs.declared.cell_ref.CellRef.TheVariants.{Null}
-use Rattle.lineage_cli.proofs.PrintLemmas.{cell_put, cells_put, most_next}
+use Rattle.lineage_cli.proofs.PrintLemmas.{cells_put, most_next}
 use Rattle.lineage_cli.proofs.row_line.put_others.Goals as goal
 
 pub put_piece-start-requires : goal.put_piece-start-requires

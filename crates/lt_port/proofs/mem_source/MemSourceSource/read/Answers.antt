@@ -16,9 +16,3 @@ returns-clause-bytes c =
 
 pub returns-then-fails-clause-bytes : goal.returns-then-fails-clause-bytes
 returns-then-fails-clause-bytes c = search rules
-
-pub returns-then-fails-clause-cause : goal.returns-then-fails-clause-cause
-returns-then-fails-clause-cause c = search rules
-
-pub returns-then-fails-clause-faults : goal.returns-then-fails-clause-faults
-returns-then-fails-clause-faults c = search rules

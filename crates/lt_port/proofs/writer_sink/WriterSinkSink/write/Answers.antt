@@ -3,6 +3,3 @@ use Rattle.lt_port.proofs.writer_sink.WriterSinkSink.write.Goals as goal
 
 pub returns-in-Ok-clause-some : goal.returns-in-Ok-clause-some
 returns-in-Ok-clause-some g c = search rules
-
-pub returns-clause-cause : goal.returns-clause-cause
-returns-clause-cause g c = search rules

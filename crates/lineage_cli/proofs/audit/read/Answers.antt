@@ -1,5 +1,0 @@
-use Rattle.std.proofs.Common.{rules}
-use Rattle.lineage_cli.proofs.audit.read.Goals as goal
-
-pub returns-in-Err-Line : goal.returns-in-Err-Line
-returns-in-Err-Line c = search rules
