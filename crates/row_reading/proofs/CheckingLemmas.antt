@@ -1,5 +1,5 @@
 -- The checks of a file in their order: which refusal comes, and what a file that is right has.
-use Rattle.std.proofs.Common.{◌≡◌, ℕ, ◌-◌, ◌≤◌, false, List, length, Ok, Err, refl, sym, ap, ap₂, subst}
+use Rattle.std.proofs.Common.{◌≡◌, ℕ, ◌-◌, ◌≤◌, false, List, [], ◌∷◌, ◌+◌, length, Ok, Err, refl, sym, ap, ap₂, subst}
 use Rattle.std.proofs.Common.{◌∙◌, inl, inr, arith}
 use Rattle.std.specs.Prelude.{ℤ, pos, ◌+ℤ◌, ◌<ℤ◌, ◌≤ℤ◌, ◌^◌, int_lt, Option, Some, None, Result}
 use Rattle.std.proofs.lemmas.Bool.{cases_Bool}
@@ -281,3 +281,13 @@ pub file_given : {X : Type 0} (view : X → List Row) (bytes : List ℕ) (column
 file_given view bytes columns first sequence told rows result there given =
     let is = as_unchecked bytes columns first sequence told ∙ ap (λ (r : Result Rows RowRefusal). r >>= λ rows. all_rows rows first sequence told) there in
     subst (λ (read : Result (List Row) RowRefusal). Gives is_memory view result read) (sym is) given
+
+-- as many rows are read as are stored
+rows_counted : (first : Option ℤ) (sequence : ℤ) (position : ℕ) (stored : List StoredRow) → length (rows_from first sequence position stored) ≡ length stored
+unfolding rows_from
+rows_counted first sequence position [] = refl
+rows_counted first sequence position (row ∷ others) = omega (arith, rows_counted first sequence (position + 1) others)
+
+-- few, if so are those
+pub rows_few : (first : Option ℤ) (sequence : ℤ) (stored : List StoredRow) → length stored ≤ most_rows → length (rows_from first sequence 0 stored) ≤ most_rows
+rows_few first sequence stored few = omega (arith, rows_counted first sequence 0 stored, few)

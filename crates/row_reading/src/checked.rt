@@ -1,12 +1,13 @@
 //! The rows of a file that was checked whole, shown one after the other.
 
-ghost use Rattle.std.specs.Prelude.{◌≡◌, ◌∷◌, List, [], map, Ok, IfOk, OnOk};
+ghost use Rattle.std.specs.Prelude.{◌≡◌, ◌≤◌, ◌∷◌, List, [], length, map, Ok, IfOk, OnOk};
 ghost use Rattle.std.specs.declared.option.Option.TheVariants.{None};
 ghost use Rattle.std.specs.Bool.{OnTrue, OnFalse};
 ghost use Rattle.words.specs.Reading.{Gives};
 ghost use Rattle.row_types.specs.CellRef.{lent_cell};
 ghost use Rattle.row_types.specs.declared.column.Column.{Column as AColumn};
 ghost use Rattle.row_types.specs.declared.row.StoredRow.{StoredRow as AStoredRow};
+ghost use Rattle.limits.specs.Limits.{most_rows};
 ghost use Rattle.stored_rows.specs.Refusal.{is_memory};
 ghost use Rattle.stored_rows.specs.Rows.{rows_from};
 ghost use Rattle.stored_rows.specs.Stored.{StoresRows, ReadsRows, AreRead};
@@ -140,6 +141,8 @@ pub fn check_own_rows<'a>(
     // Which refusal comes.
     ensures exact { Gives is_memory (λ rows. rows.left) result
         (own_rows_of bytes.now first sequence) }
+    // No more than a file may have.
+    ensures few { IfOk result (λ rows. length rows.left ≤ most_rows) }
 {
     reading_agrees();
     check_own(alloc, bytes, first, sequence)
@@ -170,6 +173,7 @@ fn check_own<'a>(
 ) -> Result<CheckedRows<'a>, RowRefusal>
     ensures exact { Gives is_memory (λ rows. rows.left) result
         (own_rows_of bytes.now first sequence) }
+    ensures few { IfOk result (λ rows. length rows.left ≤ most_rows) }
 {
     let (rows, told_rows) = own_unchecked_rows(alloc, bytes)?;
     show_checked(rows, told_rows, first, sequence, None)
@@ -186,6 +190,7 @@ fn show_checked<'a>(
     requires unchecked { AreUnchecked rows.reader.layout rows.rest rows.slot told_rows }
     ensures exact { Gives is_memory (λ rows. rows.left) result
         (all_rows (rows_left rows.entry.reader.layout rows.entry.rest) first sequence told) }
+    ensures few { IfOk result (λ rows. length rows.left ≤ most_rows) }
 {
     check_all_rows(&mut rows, told_rows, first, told)?;
     Ok(CheckedRows {

@@ -5,7 +5,7 @@ use Rattle.std.proofs.lemmas.Result.{err_from_is_err_and}
 use Rattle.words.specs.Laws.{refused_for_certain}
 use Rattle.stored_rows.specs.Refusal.{is_memory}
 use Rattle.row_reading.specs.Checked.{rows_left}
-use Rattle.row_reading.proofs.CheckingLemmas.{all_refused_so, all_passed}
+use Rattle.row_reading.proofs.CheckingLemmas.{all_refused_so, all_passed, rows_few}
 use Rattle.row_reading.proofs.checked.show_checked.Goals as goal
 
 pub returns-in_err-check_all_rows : goal.returns-in_err-check_all_rows
@@ -13,7 +13,7 @@ returns-in_err-check_all_rows c =
     let p = err_from_is_err_and c.from_residual.result c.from_residual.ensures.1 in
     let e = c.in_err-check_all_rows.field-0.0 in
     let refused = all_refused_so _ c.args.first c.args.sequence c.args.told e (sym c.in_err-check_all_rows.ensures.exact) in
-    record { exact = rw (p.1, p.2) (refused_for_certain (is_memory e) refused) }
+    record { exact = rw (p.1, p.2) (refused_for_certain (is_memory e) refused); few = rw p.1 tt }
 
 pub returns : goal.returns
 returns c =
@@ -21,4 +21,4 @@ returns c =
     let after = c.check_all_rows.new.rows in
     let left = rows_left after.reader.layout after.rest in
     let passed = all_passed _ left c.args.first c.args.sequence c.args.told (sym c.in_ok-check_all_rows.ensures.exact) c.in_ok-check_all_rows.ensures.left in
-    record { exact = simp to_z-of_z passed }
+    record { exact = simp to_z-of_z passed; few = rows_few c.args.first _ left.objects c.in_ok-check_all_rows.ensures.right.few }
