@@ -6,3 +6,4 @@ pub mod AnswersLemmas
 pub mod RowsLemmas
 pub mod AuditLemmas
 pub mod CompleteLemmas
+pub mod FaultLemmas

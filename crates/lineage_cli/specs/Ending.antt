@@ -6,12 +6,6 @@ use Rattle.lineage_model.specs.RuleName.{name_of}
 use Rattle.lt_port.specs.declared.failure.PortError.{PortError}
 use Rattle.lt_port.specs.declared.failure.PortError.TheVariants as ports
 use Rattle.refusal_text.specs.Told.{spaced}
-use Rattle.avro_container.specs.declared.refusal.ContainerRefusal.{ContainerRefusal}
-use Rattle.avro_container.specs.declared.refusal.ContainerRefusal.TheVariants as containers
-use Rattle.avro_schema.specs.declared.refusal.SchemaRefusal.{SchemaRefusal}
-use Rattle.avro_schema.specs.declared.refusal.SchemaRefusal.TheVariants as schemas
-use Rattle.datum_reading.specs.declared.refusal.DatumRefusal.{DatumRefusal}
-use Rattle.datum_reading.specs.declared.refusal.DatumRefusal.TheVariants as datums
 use Rattle.stored_rows.specs.RefusalText.{refusal_text}
 use Rattle.stored_rows.specs.declared.refusal.RowRefusal.{RowRefusal}
 use Rattle.stored_rows.specs.declared.refusal.RowRefusal.TheVariants as refusals
@@ -26,27 +20,9 @@ use Rattle.lineage_cli.specs.Class.{class_status, class_word}
 
 -- ---- a file that is refused
 
--- the class of bytes that are no container: a limit, memory, or else a table
-abbrev pub container_class : ContainerRefusal → RefusalClass
-container_class (containers.Limit found) = about.Limit
-container_class containers.Memory = about.Memory
-container_class _ = about.Table
-
--- the class of a text that is no schema: memory, or else a table
-abbrev pub schema_class : SchemaRefusal → RefusalClass
-schema_class schemas.Memory = about.Memory
-schema_class _ = about.Table
-
--- the class of bytes that are no row: memory, or else a table
-abbrev pub datum_class : DatumRefusal → RefusalClass
-datum_class datums.Memory = about.Memory
-datum_class _ = about.Table
-
--- the class of a file that is refused: that of its part, a limit, memory, or else a table
+-- the class of a file that is refused: a limit, memory, or else a table; its parts tell neither a limit nor memory, since
+-- a file's refusal has variants of its own for these
 abbrev pub table_class : RowRefusal → RefusalClass
-table_class (refusals.Container refusal) = container_class refusal
-table_class (refusals.Schema refusal) = schema_class refusal
-table_class (refusals.Datum refusal) = datum_class refusal
 table_class (refusals.Limit which found) = about.Limit
 table_class refusals.Memory = about.Memory
 table_class _ = about.Table

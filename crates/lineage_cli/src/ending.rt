@@ -12,9 +12,6 @@ use crate::class::{Class, RefusalClass, class_word, status_of_class};
 use crate::line::put_told;
 use crate::output::{Buffer, flush, put};
 use crate::parts::put_plain;
-use avro_container::ContainerRefusal;
-use avro_schema::SchemaRefusal;
-use datum_reading::DatumRefusal;
 use limits::Which;
 use lineage_model::Rule;
 use lt_port::{PortError, Sink};
@@ -91,13 +88,8 @@ fn table_class(refusal: &RowRefusal) -> RefusalClass
     ensures { result ≡ spec.table_class refusal.now }
 {
     match refusal {
-        RowRefusal::Container(ContainerRefusal::Limit { .. }) | RowRefusal::Limit { .. } => {
-            RefusalClass::Limit
-        }
-        RowRefusal::Container(ContainerRefusal::Memory)
-        | RowRefusal::Schema(SchemaRefusal::Memory)
-        | RowRefusal::Datum(DatumRefusal::Memory)
-        | RowRefusal::Memory => RefusalClass::Memory,
+        RowRefusal::Limit { .. } => RefusalClass::Limit,
+        RowRefusal::Memory => RefusalClass::Memory,
         _ => RefusalClass::Table,
     }
 }

@@ -10,6 +10,15 @@ ghost use Rattle.lineage_cli.specs.Complete.{HasInput, NoneFailed};
 ghost use Rattle.lineage_cli.specs.Outside.{Outside};
 ghost use Rattle.lineage_cli.specs.Run.{IsRun};
 
+/// A run whose status isn't 5 made no call on its input or its output that failed: their counts of
+/// failed calls are as before.
+pub fn another_status_has_no_fault()
+    ensures { (words : List (List ℕ)) (before : Outside) (after : Outside) (status : ℕ)
+        → IsRun words before after status → (status ≡ 5 → ⊥)
+        → (after.input.faults ≡ before.input.faults)
+        × (after.output.counts.faults ≡ before.output.counts.faults) }
+{}
+
 /// A run whose words are right and whose input the command accepts answers, unless a call on a
 /// stream failed or memory ran out: `rows` with 0, for a file that stores rows which can be read;
 /// `audit` with 0 or 4, for a report.

@@ -10,7 +10,8 @@
 //! | `audits` | `audit` of reports |
 //! | `outside` | calls that fail or move few bytes, and inputs at their limits |
 //! | `ports` | sources and sinks in memory, each through its trait |
-//! | `interrupted` | readers and writers whose first call is interrupted by a signal |
+//! | `wanting` | an output for which memory runs out |
+//! | `first_calls` | readers and writers whose first call answers otherwise than the later ones |
 #![tactic(auto)]
 
 #[cfg(test)]
@@ -20,7 +21,7 @@ mod command_lines;
 #[cfg(test)]
 mod files;
 #[cfg(test)]
-mod interrupted;
+mod first_calls;
 #[cfg(test)]
 mod lineage;
 #[cfg(test)]
@@ -31,3 +32,5 @@ mod outside;
 mod ports;
 #[cfg(test)]
 mod running;
+#[cfg(test)]
+mod wanting;

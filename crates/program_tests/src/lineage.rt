@@ -20,20 +20,20 @@ const WITH_IDS: Input = &[
 
 /// Files with and without ids of their own.
 static LINEAGE: [Case; 5] = [
-    // A file without a first row id.
+    // A file without a first row id, and with the largest sequence number.
     (
-        &["rows", "-", "7"],
+        &["rows", "-", "9223372036854775807"],
         THREE_ROWS,
         0,
-        "- 7 10 \"a\"\n- 7 11 null\n- 7 12 \"b\"\n",
+        "- 9223372036854775807 10 \"a\"\n- 9223372036854775807 11 null\n- 9223372036854775807 12 \"b\"\n",
         "",
     ),
-    // Stored ids, and a first row id for the row without one.
+    // Stored ids, and the least first row id for the row without one.
     (
-        &["rows", "40", "3"],
+        &["rows", "0", "3"],
         WITH_IDS,
         0,
-        "5 2 10 \"a\"\n41 3 11 null\n9 3 12 \"b\"\n",
+        "5 2 10 \"a\"\n1 3 11 null\n9 3 12 \"b\"\n",
         "",
     ),
     // Stored ids alone.
@@ -44,12 +44,12 @@ static LINEAGE: [Case; 5] = [
         "5 2 10 \"a\"\n- 3 11 null\n9 3 12 \"b\"\n",
         "",
     ),
-    // The last id is the largest of 63 bits but one.
+    // The last id is the largest of 63 bits but one. The sequence number is the least.
     (
-        &["rows", "9223372036854775804", "7"],
+        &["rows", "9223372036854775804", "0"],
         THREE_ROWS,
         0,
-        "9223372036854775804 7 10 \"a\"\n9223372036854775805 7 11 null\n9223372036854775806 7 12 \"b\"\n",
+        "9223372036854775804 0 10 \"a\"\n9223372036854775805 0 11 null\n9223372036854775806 0 12 \"b\"\n",
         "",
     ),
     // The next id would be past 63 bits.

@@ -128,7 +128,7 @@ pub(crate) fn run(
 }
 
 /// The words, as the program takes them.
-fn texts_of(alloc: Global, words: &[&str]) -> Result<Vec<Text>, AllocError> {
+pub(crate) fn texts_of(alloc: Global, words: &[&str]) -> Result<Vec<Text>, AllocError> {
     let mut texts = Vec::new(alloc);
     for word in words {
         texts.push(Text::from_str(alloc, word)?)?;
