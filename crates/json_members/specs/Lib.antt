@@ -3,6 +3,7 @@ pub mod Fault
 pub mod Form
 pub mod Members
 pub mod Rows
+pub mod Values
 pub mod Plain
 pub mod Coded
 pub mod ParseLaws
@@ -11,4 +12,5 @@ pub mod MemberLaws
 pub mod FieldLaws
 pub mod LackLaws
 pub mod RowLaws
+pub mod ValueLaws
 pub mod PlainLaws

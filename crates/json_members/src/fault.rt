@@ -36,7 +36,7 @@ impl<T: Drop> From<AllocFailed<T>> for Fault {
 }
 
 /// The fault of a member that is missing.
-pub(crate) fn missing(alloc: Global, name: &str) -> Fault
+pub fn missing(alloc: Global, name: &str) -> Fault
     ensures { OnFalse (is_memory result) (result ≡ Missing name.now) }
 {
     match Text::from_str(alloc, name) {
@@ -46,7 +46,7 @@ pub(crate) fn missing(alloc: Global, name: &str) -> Fault
 }
 
 /// The fault of a member whose value does not have its form.
-pub(crate) fn wrong(alloc: Global, name: &str) -> Fault
+pub fn wrong(alloc: Global, name: &str) -> Fault
     ensures { OnFalse (is_memory result) (result ≡ Wrong name.now) }
 {
     match Text::from_str(alloc, name) {

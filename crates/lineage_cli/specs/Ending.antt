@@ -20,8 +20,8 @@ use Rattle.lineage_cli.specs.Class.{class_status, class_word}
 
 -- ---- a file that is refused
 
--- the class of a file that is refused: a limit, memory, or else a table; its parts tell neither a limit nor memory, since
--- a file's refusal has variants of its own for these
+-- the class of a file that is refused: a limit, memory, or else a table; its parts tell neither a limit nor memory,
+-- since a file's refusal has variants of its own for these
 abbrev pub table_class : RowRefusal → RefusalClass
 table_class (refusals.Limit which found) = about.Limit
 table_class refusals.Memory = about.Memory

@@ -1,0 +1,28 @@
+-- The values of members, by what a look-up finds.
+use Rattle.std.specs.Prelude.{ℕ, ℤ, pos, List, Option, None, option_and_then, unwrap_or}
+use Rattle.serde_json.specs.Data.{Data, number}
+use Rattle.serde_json.specs.Find.{as_str, of_integer}
+use Rattle.json_members.specs.declared.rows.Version.{Version}
+use Rattle.json_members.specs.declared.rows.Version.TheVariants.{Older, Newer}
+use Rattle.json_members.specs.Form.{long_of}
+
+-- the number of 64 bits that is found
+abbrev pub number_in : Option Data → Option ℤ
+number_in found = option_and_then long_of found
+
+-- the number that is found, if the version has it
+abbrev pub number_since : Version → Option Data → Option ℤ
+number_since Older found = None
+number_since Newer found = number_in found
+
+-- the number that is found, or 0
+abbrev pub number_or_0 : Option Data → ℤ
+number_or_0 found = unwrap_or (number_in found) (pos 0)
+
+-- the text that is found
+abbrev pub text_in : Option Data → Option (List ℕ)
+text_in found = option_and_then as_str found
+
+-- a whole number as a value
+abbrev pub whole : ℤ → Data
+whole z = number (of_integer z)

@@ -1,0 +1,280 @@
+//! Lists of snapshots, read and printed, or refused.
+
+use json_members::{Version, parse};
+use serde_json::Value;
+use snapshot_entries::{
+    SnapshotRefusal, check_ids, check_limits, has_snapshot, read_snapshots, snapshot_values,
+};
+use std::alloc::{AllocError, Global};
+use std::test::Fail;
+
+/// A version of the format, the text of a list of snapshots, and what becomes of it if the table's
+/// last sequence number is 7: the printed text, or why it is refused.
+type Case = (Version, &'static str, &'static str);
+
+static LISTS: [Case; 28] = [
+    (Version::Newer, "[]", "[]"),
+    // All members, in another order, and one that is carried.
+    (
+        Version::Newer,
+        r#"[{"summary":{"operation":"append"},"timestamp-ms":1000,"schema-id":0,"added-rows":2,"first-row-id":0,"manifest-list":"t/a.avro","parent-snapshot-id":4,"sequence-number":7,"snapshot-id":5}]"#,
+        r#"[{"added-rows":2,"first-row-id":0,"manifest-list":"t/a.avro","parent-snapshot-id":4,"schema-id":0,"sequence-number":7,"snapshot-id":5,"summary":{"operation":"append"},"timestamp-ms":1000}]"#,
+    ),
+    // The least and the largest numbers.
+    (
+        Version::Newer,
+        r#"[{"snapshot-id":9223372036854775807,"timestamp-ms":-1,"manifest-list":"","parent-snapshot-id":-1,"schema-id":-1,"first-row-id":0,"added-rows":9223372036854775807}]"#,
+        r#"[{"added-rows":9223372036854775807,"first-row-id":0,"manifest-list":"","parent-snapshot-id":-1,"schema-id":-1,"sequence-number":0,"snapshot-id":9223372036854775807,"timestamp-ms":-1}]"#,
+    ),
+    // Members that may be missing, and nulls that count as missing.
+    (
+        Version::Newer,
+        r#"[{"snapshot-id":1,"timestamp-ms":-1,"manifest-list":""},{"snapshot-id":0,"timestamp-ms":2,"manifest-list":"b","parent-snapshot-id":null,"schema-id":null,"first-row-id":null,"added-rows":null,"key-id":null}]"#,
+        r#"[{"manifest-list":"","sequence-number":0,"snapshot-id":1,"timestamp-ms":-1},{"key-id":null,"manifest-list":"b","sequence-number":0,"snapshot-id":0,"timestamp-ms":2}]"#,
+    ),
+    // The last of two members with one name counts.
+    (
+        Version::Newer,
+        r#"[{"snapshot-id":1,"snapshot-id":2,"timestamp-ms":1,"manifest-list":"a"}]"#,
+        r#"[{"manifest-list":"a","sequence-number":0,"snapshot-id":2,"timestamp-ms":1}]"#,
+    ),
+    // In version 2 two members are carried unread, and all others are checked.
+    (
+        Version::Older,
+        r#"[{"snapshot-id":1,"timestamp-ms":1,"manifest-list":"a","parent-snapshot-id":null,"first-row-id":"x","added-rows":null}]"#,
+        r#"[{"added-rows":null,"first-row-id":"x","manifest-list":"a","sequence-number":0,"snapshot-id":1,"timestamp-ms":1}]"#,
+    ),
+    (
+        Version::Older,
+        r#"[{"snapshot-id":1,"timestamp-ms":1,"schema-id":"x"}]"#,
+        "Wrong schema-id",
+    ),
+    (
+        Version::Older,
+        r#"[{"snapshot-id":1,"timestamp-ms":1,"added-rows":-1}]"#,
+        "NoManifestList",
+    ),
+    (
+        Version::Older,
+        r#"[{"snapshot-id":1,"timestamp-ms":1,"sequence-number":8}]"#,
+        "Wrong sequence-number",
+    ),
+    // The list.
+    (Version::Newer, "[1]", "Wrong snapshots"),
+    (
+        Version::Newer,
+        r#"[{"snapshot-id":1},{"snapshot-id":2},{"snapshot-id":1}]"#,
+        "Wrong snapshots",
+    ),
+    (
+        Version::Newer,
+        r#"[{"snapshot-id":-1},{"snapshot-id":-1}]"#,
+        "Wrong snapshots",
+    ),
+    (
+        Version::Newer,
+        r#"[{"snapshot-id":9223372036854775808},{"snapshot-id":9223372036854775808}]"#,
+        "Wrong snapshot-id",
+    ),
+    (Version::Newer, "[{},{}]", "Missing snapshot-id"),
+    // A snapshot, in the order of its checks.
+    (
+        Version::Newer,
+        r#"[{"snapshot-id":-1,"timestamp-ms":""}]"#,
+        "Wrong snapshot-id",
+    ),
+    (
+        Version::Newer,
+        r#"[{"snapshot-id":null}]"#,
+        "Wrong snapshot-id",
+    ),
+    (
+        Version::Newer,
+        r#"[{"snapshot-id":1,"sequence-number":-1}]"#,
+        "Missing timestamp-ms",
+    ),
+    (
+        Version::Newer,
+        r#"[{"snapshot-id":1,"timestamp-ms":"1"}]"#,
+        "Wrong timestamp-ms",
+    ),
+    (
+        Version::Newer,
+        r#"[{"snapshot-id":1,"timestamp-ms":1,"sequence-number":-1}]"#,
+        "Wrong sequence-number",
+    ),
+    (
+        Version::Newer,
+        r#"[{"snapshot-id":1,"timestamp-ms":1,"sequence-number":null}]"#,
+        "Wrong sequence-number",
+    ),
+    (
+        Version::Newer,
+        r#"[{"snapshot-id":1,"timestamp-ms":1,"sequence-number":8,"parent-snapshot-id":""}]"#,
+        "Wrong sequence-number",
+    ),
+    (
+        Version::Newer,
+        r#"[{"snapshot-id":1,"timestamp-ms":1,"parent-snapshot-id":"","schema-id":""}]"#,
+        "Wrong parent-snapshot-id",
+    ),
+    (
+        Version::Newer,
+        r#"[{"snapshot-id":1,"timestamp-ms":1,"schema-id":"","first-row-id":-1}]"#,
+        "Wrong schema-id",
+    ),
+    (
+        Version::Newer,
+        r#"[{"snapshot-id":1,"timestamp-ms":1,"first-row-id":-1,"added-rows":-1}]"#,
+        "Wrong first-row-id",
+    ),
+    (
+        Version::Newer,
+        r#"[{"snapshot-id":1,"timestamp-ms":1,"added-rows":-1}]"#,
+        "Wrong added-rows",
+    ),
+    // One snapshot after the other.
+    (
+        Version::Newer,
+        r#"[{"snapshot-id":1,"timestamp-ms":1},{}]"#,
+        "NoManifestList",
+    ),
+    (
+        Version::Newer,
+        r#"[{"snapshot-id":1,"timestamp-ms":1,"manifest-list":null}]"#,
+        "NoManifestList",
+    ),
+    (
+        Version::Newer,
+        r#"[{"snapshot-id":2,"timestamp-ms":1,"manifest-list":"a"},{"snapshot-id":1}]"#,
+        "Missing timestamp-ms",
+    ),
+];
+
+/// The printed text of a list of snapshots that is read.
+fn printed(alloc: Global, version: Version, items: Vec<Value>) -> Result<Vec<u8>, SnapshotRefusal> {
+    check_ids(alloc, &items)?;
+    check_limits(&items)?;
+    let snapshots = read_snapshots(alloc, version, 7, items)?;
+    let values = snapshot_values(alloc, snapshots.as_slice())?;
+    Ok(Value::Array(values).to_vec(alloc)?)
+}
+
+/// Whether this is the text of the refusal: its name, and the name of its member.
+fn tells(refusal: &SnapshotRefusal, text: &str) -> bool {
+    match refusal {
+        SnapshotRefusal::Missing { member } => text.strip_prefix("Missing ")
+            == Some(member.as_str()),
+        SnapshotRefusal::Wrong { member } => text.strip_prefix("Wrong ") == Some(member.as_str()),
+        SnapshotRefusal::NoManifestList { id } => text == "NoManifestList" && *id == 1,
+        SnapshotRefusal::Snapshots { .. } | SnapshotRefusal::Path { .. } => false,
+        SnapshotRefusal::Memory => false,
+    }
+}
+
+/// Whether the case ends as it says.
+fn ends_so(alloc: Global, case: &Case) -> Result<bool, AllocError> {
+    let (version, text, wanted) = *case;
+    let Some(Value::Array(items)) = parse(alloc, text.as_bytes())? else {
+        return Ok(false);
+    };
+    match printed(alloc, version, items) {
+        Ok(text) => Ok(text.as_slice() == wanted.as_bytes()),
+        Err(refusal) => Ok(tells(&refusal, wanted)),
+    }
+}
+
+/// The place of the first case that ends otherwise, counted from 0. `None`: all end so.
+fn first_wrong(alloc: Global) -> Result<Option<usize>, AllocError> {
+    for place in 0..LISTS.len() {
+        if !ends_so(alloc, &LISTS[place])? {
+            return Ok(Some(place));
+        }
+    }
+    Ok(None)
+}
+
+/// How many items without a path stand first, how long the paths of the later ones are, and what
+/// is refused: the number of snapshots, or the length of a path.
+type Limit = (usize, &'static [usize], Option<u64>, Option<u64>);
+
+static LIMITS: [Limit; 5] = [
+    (9_999, &[1_024], None, None),
+    (10_000, &[1_025], Some(10_001), None),
+    (0, &[1_024, 1_024], None, None),
+    (0, &[1_025], None, Some(1_025)),
+    (1, &[3, 1_026, 1_025], None, Some(1_026)),
+];
+
+/// An object whose manifest list has a path of so many bytes. `None` never comes.
+fn item_with_path(alloc: Global, length: usize) -> Result<Option<Value>, AllocError> {
+    let mut text = Vec::new(alloc);
+    text.extend_from_slice(b"{\"manifest-list\":\"")?;
+    for _ in 0..length {
+        text.push(b'x')?;
+    }
+    text.extend_from_slice(b"\"}")?;
+    parse(alloc, &text)
+}
+
+fn items_of(alloc: Global, nulls: usize, lengths: &[usize]) -> Result<Vec<Value>, AllocError> {
+    let mut items = Vec::new(alloc);
+    for _ in 0..nulls {
+        items.push(Value::Null)?;
+    }
+    for length in lengths {
+        if let Some(item) = item_with_path(alloc, *length)? {
+            items.push(item)?;
+        }
+    }
+    Ok(items)
+}
+
+/// Whether the limits of these items are checked so.
+fn is_limited_so(alloc: Global, limit: &Limit) -> Result<bool, AllocError> {
+    let (nulls, lengths, many, long) = *limit;
+    let items = items_of(alloc, nulls, lengths)?;
+    match check_limits(&items) {
+        Ok(()) => Ok(many.is_none() && long.is_none()),
+        Err(SnapshotRefusal::Snapshots { found }) => Ok(many == Some(found)),
+        Err(SnapshotRefusal::Path { found }) => Ok(long == Some(found)),
+        Err(_) => Ok(false),
+    }
+}
+
+/// The place of the first limit that is checked otherwise, counted from 0. `None`: all are so.
+fn first_wrong_limit(alloc: Global) -> Result<Option<usize>, AllocError> {
+    for place in 0..LIMITS.len() {
+        if !is_limited_so(alloc, &LIMITS[place])? {
+            return Ok(Some(place));
+        }
+    }
+    Ok(None)
+}
+
+/// Ids that are looked for among 3, -5 and two that are no numbers of 64 bits, and whether they are
+/// there.
+static IDS: [(i64, bool); 4] = [(3, true), (-5, true), (0, false), (4, false)];
+
+/// The first id that is found, or isn't, against its row. `None`: there is none.
+fn first_wrong_id(alloc: Global) -> Result<Option<i64>, AllocError> {
+    let text =
+        r#"[{"snapshot-id":"4"},{"snapshot-id":9223372036854775808},{"snapshot-id":-5},{"snapshot-id":3}]"#;
+    let Some(Value::Array(items)) = parse(alloc, text.as_bytes())? else {
+        return Ok(Some(0));
+    };
+    for (id, is_there) in IDS {
+        if has_snapshot(&items, id) != is_there {
+            return Ok(Some(id));
+        }
+    }
+    Ok(None)
+}
+
+#[test]
+fn snapshots_are_printed_as_read_or_refused(rt: HostRuntime) -> Result<(), Fail> {
+    assert_eq!(rt; first_wrong(rt.alloc())?, None);
+    assert_eq!(rt; first_wrong_limit(rt.alloc())?, None);
+    assert_eq!(rt; first_wrong_id(rt.alloc())?, None);
+    Ok(())
+}

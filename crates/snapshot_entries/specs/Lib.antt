@@ -1,0 +1,11 @@
+pub mod Members
+pub mod Refusal
+pub mod Reading
+pub mod List
+pub mod Ids
+pub mod Relation
+pub mod Snapshot
+pub mod Printing
+pub mod FoundLaws
+pub mod AgainLaws
+pub mod KeptLaws
