@@ -4,8 +4,8 @@ pub mod Form
 pub mod Members
 pub mod Rows
 pub mod Values
+pub mod Meaning
 pub mod Plain
-pub mod Coded
 pub mod ParseLaws
 pub mod NumberLaws
 pub mod MemberLaws
@@ -13,4 +13,5 @@ pub mod FieldLaws
 pub mod LackLaws
 pub mod RowLaws
 pub mod ValueLaws
+pub mod MeaningLaws
 pub mod PlainLaws

@@ -1,16 +1,18 @@
 -- Values without floats that nest at most as deep as a bound: what keeps them so.
-use Rattle.std.proofs.Common.{◌≡◌, ℕ, suc, List, [], ◌∷◌, Option, Some, None, Bool, true, false, ◌||◌, cond}
-use Rattle.std.proofs.Common.{if◌then◌else◌, Ordering, Less, Equal, Greater, nat_cmp, sym, ap, subst, ◌∙◌, arith}
+use Rattle.std.proofs.Common.{◌≡◌, ℕ, suc, ℤ, pos, negsuc, List, [], ◌∷◌, Option, Some, None, option_map, Bool, true}
+use Rattle.std.proofs.Common.{false, ◌||◌, cond, if◌then◌else◌, Ordering, Less, Equal, Greater, nat_cmp, refl, sym, ap}
+use Rattle.std.proofs.Common.{subst, ◌∙◌, arith}
 use Rattle.std.proofs.lemmas.Bool.{or_parts}
 use Rattle.std.specs.Cmp.Lexicographic.{slice_cmp}
 use Rattle.std.specs.Ordering.{match_ordering}
 use Rattle.std.specs.Str.{bytes_eq}
-use Rattle.serde_json.specs.Data.{Data, object, array, Items, item, Members, no_members, member, put}
+use Rattle.serde_json.specs.Data.{Data, string, object, array, Items, no_items, item, Members, no_members, member, put}
 use Rattle.serde_json.specs.Written.{has_float, items_have_float, members_have_float}
 use Rattle.serde_json.specs.Find.{get_member}
 use Rattle.json_members.specs.Members.{is_among, without, Field, with_field, with_fields}
 use Rattle.json_members.specs.Plain.{IsPlain, ArePlain, ItemsArePlain, FieldIsPlain, FieldsArePlain}
 use Rattle.json_members.specs.MemberLaws.{get_first}
+use Rattle.json_members.specs.Values.{whole}
 
 plain_more : (room : ℕ) (key : List ℕ) (d : Data) (ms : Members) → IsPlain room d → ArePlain room ms
     → ArePlain room (member key d ms)
@@ -112,3 +114,21 @@ item_plain room d ds here rest =
       shallow = omega (arith, here.shallow, rest.shallow);
       whole = ap (λ b. b || items_have_float ds) here.whole ∙ rest.whole;
     }
+
+-- ---- numbers and texts
+
+pub whole_plain : (room : ℕ) (z : ℤ) → IsPlain room (whole z)
+whole_plain room (pos n) = record { shallow = omega arith; whole = refl }
+whole_plain room (negsuc n) = record { shallow = omega arith; whole = refl }
+
+pub string_plain : (room : ℕ) (s : List ℕ) → IsPlain room (string s)
+string_plain room s = record { shallow = omega arith; whole = refl }
+
+-- a number that may be missing
+pub number_plain : (room : ℕ) (o : Option ℤ) → FieldIsPlain room (option_map whole o)
+number_plain room None = tt
+number_plain room (Some z) = whole_plain room z
+
+-- no items
+pub none_plain : (room : ℕ) → ItemsArePlain room no_items
+none_plain room = record { shallow = omega arith; whole = refl }

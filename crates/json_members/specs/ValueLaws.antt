@@ -1,13 +1,12 @@
 -- The values of members that a table has checked, and members that are written with a number.
-use Rattle.std.proofs.Common.{◌≡◌, ℕ, ℤ, pos, int_lt, List, Bool, true, false, Option, Some, None, is_some, option_map}
-use Rattle.std.proofs.Common.{option_and_then, unwrap_or, Result, Ok, Err, refl, sym, ap, ◌∙◌}
+use Rattle.std.proofs.Common.{◌≡◌, ℕ, ℤ, pos, int_lt, List, true, false, Option, Some, None, is_some, option_map}
+use Rattle.std.proofs.Common.{unwrap_or, Ok, refl, sym, ap, ◌∙◌}
 use Rattle.serde_json.specs.Data.{Data, null, boolean, number, string, array, object}
-use Rattle.json_members.specs.declared.fault.Fault.{Fault}
 use Rattle.json_members.specs.declared.form.Form.TheVariants.{Long, Natural}
 use Rattle.json_members.specs.declared.rows.Keep.{Keep}
 use Rattle.json_members.specs.declared.rows.Need.TheVariants.{Needed, MayBeAbsent, MayBeNull}
 use Rattle.json_members.specs.declared.rows.Version.{Version}
-use Rattle.json_members.specs.Form.{is_long, long_of, if_natural, natural_of, has_form}
+use Rattle.json_members.specs.Form.{is_long, long_of, natural_of, has_form}
 use Rattle.json_members.specs.Members.{first_of}
 use Rattle.json_members.specs.Rows.{Row, tested, absent_at}
 use Rattle.json_members.specs.Values.{number_in, number_or_0, whole}

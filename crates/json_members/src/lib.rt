@@ -8,7 +8,6 @@
 //! | `fault` | why a member is refused |
 //! | `rows` | a table of members, the first fault in an object or in a list of objects |
 //! | `values` | the values of members that a table has checked |
-//! | `tree` | an object that owns its members |
 #![tactic(auto)]
 
 mod fault;
@@ -16,7 +15,6 @@ mod form;
 mod members;
 mod parsing;
 mod rows;
-mod tree;
 mod values;
 
 pub use fault::{Fault, missing, wrong};
@@ -24,5 +22,4 @@ pub use form::{Form, has_form, int_of, is_whole, long_of, natural_of};
 pub use members::{Members, member, put, put_some, take, take_items};
 pub use parsing::parse;
 pub use rows::{Keep, Need, Row, Version, check, check_all, each_right, leave_out_fields};
-pub use tree::Tree;
 pub use values::{number_at, number_or_0, number_since, text_at};

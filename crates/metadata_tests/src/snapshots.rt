@@ -3,7 +3,7 @@
 use json_members::{Version, parse};
 use serde_json::Value;
 use snapshot_entries::{
-    SnapshotRefusal, check_ids, check_limits, has_snapshot, read_snapshots, snapshot_values,
+    SnapshotRefusal, Tree, check_ids, has_snapshot, read_snapshots, snapshot_values,
 };
 use std::alloc::{AllocError, Global};
 use std::test::Fail;
@@ -154,7 +154,6 @@ static LISTS: [Case; 28] = [
 /// The printed text of a list of snapshots that is read.
 fn printed(alloc: Global, version: Version, items: Vec<Value>) -> Result<Vec<u8>, SnapshotRefusal> {
     check_ids(alloc, &items)?;
-    check_limits(&items)?;
     let snapshots = read_snapshots(alloc, version, 7, items)?;
     let values = snapshot_values(alloc, snapshots.as_slice())?;
     Ok(Value::Array(values).to_vec(alloc)?)
@@ -194,7 +193,7 @@ fn first_wrong(alloc: Global) -> Result<Option<usize>, AllocError> {
     Ok(None)
 }
 
-/// How many items without a path stand first, how long the paths of the later ones are, and what
+/// How many snapshots with an empty path stand first, how long the paths of the later ones are, and what
 /// is refused: the number of snapshots, or the length of a path.
 type Limit = (usize, &'static [usize], Option<u64>, Option<u64>);
 
@@ -206,10 +205,10 @@ static LIMITS: [Limit; 5] = [
     (1, &[3, 1_026, 1_025], None, Some(1_026)),
 ];
 
-/// An object whose manifest list has a path of so many bytes. `None` never comes.
+/// A snapshot whose manifest list has a path of so many bytes. `None` never comes.
 fn item_with_path(alloc: Global, length: usize) -> Result<Option<Value>, AllocError> {
     let mut text = Vec::new(alloc);
-    text.extend_from_slice(b"{\"manifest-list\":\"")?;
+    text.extend_from_slice(b"{\"snapshot-id\":1,\"timestamp-ms\":1,\"manifest-list\":\"")?;
     for _ in 0..length {
         text.push(b'x')?;
     }
@@ -217,10 +216,12 @@ fn item_with_path(alloc: Global, length: usize) -> Result<Option<Value>, AllocEr
     parse(alloc, &text)
 }
 
-fn items_of(alloc: Global, nulls: usize, lengths: &[usize]) -> Result<Vec<Value>, AllocError> {
+fn items_of(alloc: Global, empty: usize, lengths: &[usize]) -> Result<Vec<Value>, AllocError> {
     let mut items = Vec::new(alloc);
-    for _ in 0..nulls {
-        items.push(Value::Null)?;
+    for _ in 0..empty {
+        if let Some(item) = item_with_path(alloc, 0)? {
+            items.push(item)?;
+        }
     }
     for length in lengths {
         if let Some(item) = item_with_path(alloc, *length)? {
@@ -230,19 +231,19 @@ fn items_of(alloc: Global, nulls: usize, lengths: &[usize]) -> Result<Vec<Value>
     Ok(items)
 }
 
-/// Whether the limits of these items are checked so.
+/// Whether these items are read, or refused so.
 fn is_limited_so(alloc: Global, limit: &Limit) -> Result<bool, AllocError> {
-    let (nulls, lengths, many, long) = *limit;
-    let items = items_of(alloc, nulls, lengths)?;
-    match check_limits(&items) {
-        Ok(()) => Ok(many.is_none() && long.is_none()),
+    let (empty, lengths, many, long) = *limit;
+    let items = items_of(alloc, empty, lengths)?;
+    match read_snapshots(alloc, Version::Newer, 7, items) {
+        Ok(_) => Ok(many.is_none() && long.is_none()),
         Err(SnapshotRefusal::Snapshots { found }) => Ok(many == Some(found)),
         Err(SnapshotRefusal::Path { found }) => Ok(long == Some(found)),
         Err(_) => Ok(false),
     }
 }
 
-/// The place of the first limit that is checked otherwise, counted from 0. `None`: all are so.
+/// The place of the first list that ends otherwise, counted from 0. `None`: all end so.
 fn first_wrong_limit(alloc: Global) -> Result<Option<usize>, AllocError> {
     for place in 0..LIMITS.len() {
         if !is_limited_so(alloc, &LIMITS[place])? {
@@ -271,10 +272,24 @@ fn first_wrong_id(alloc: Global) -> Result<Option<i64>, AllocError> {
     Ok(None)
 }
 
+/// Operations that a summary names.
+static OPERATIONS: [&str; 2] = ["", "append"];
+
+/// The first operation that isn't found in its own summary. `None`: there is none.
+fn first_wrong_summary(alloc: Global) -> Result<Option<&'static str>, AllocError> {
+    for operation in OPERATIONS {
+        if Tree::with_operation(alloc, operation)?.operation() != Some(operation) {
+            return Ok(Some(operation));
+        }
+    }
+    Ok(None)
+}
+
 #[test]
 fn snapshots_are_printed_as_read_or_refused(rt: HostRuntime) -> Result<(), Fail> {
     assert_eq!(rt; first_wrong(rt.alloc())?, None);
     assert_eq!(rt; first_wrong_limit(rt.alloc())?, None);
     assert_eq!(rt; first_wrong_id(rt.alloc())?, None);
+    assert_eq!(rt; first_wrong_summary(rt.alloc())?, None);
     Ok(())
 }

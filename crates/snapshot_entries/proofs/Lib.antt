@@ -1,2 +1,3 @@
+pub mod IdLaws
 pub mod ListSteps
 pub mod ReadingSteps

@@ -1,5 +1,5 @@
 -- Steps of the checks of a list: of its ids, and of its paths.
-use Rattle.std.proofs.Common.{◌≡◌, ℕ, ℤ, ◌+◌, ◌<◌, ◌≤◌, List, [], ◌∷◌, length, get_or, drop, Bool, true, false, ◌&&◌}
+use Rattle.std.proofs.Common.{◌≡◌, ℕ, ℤ, ◌+◌, ◌<◌, ◌≤◌, List, length, get_or, drop, Bool, true, false, ◌&&◌}
 use Rattle.std.proofs.Common.{is_some, nat_lt, if◌then◌else◌, Err, refl, sym, ap, ◌∙◌}
 use Rattle.std.proofs.lemmas.Bool.{lt-ltb, le-ltb}
 use Rattle.std.proofs.lemmas.List.{at_drop_more, at_drop_all}
@@ -9,35 +9,36 @@ use Rattle.serde_json.specs.View.{view, items_view}
 use Rattle.serde_json.specs.declared.value.Value.{Value}
 use Rattle.serde_json.proofs.Views.{items_len-items_view}
 use Rattle.snapshot_entries.specs.declared.refusal.SnapshotRefusal.TheVariants.{Snapshots}
-use Rattle.snapshot_entries.specs.List.{are_distinct, is_new, with_id, id_of, paths_checked, limits_checked, most_snapshots}
+use Rattle.snapshot_entries.specs.Ids.{is_new, distinct_after}
+use Rattle.snapshot_entries.specs.List.{with_id, id_of, paths_checked, limits_checked, most_snapshots}
 
 abbrev here_and : List ℤ → Data → Bool → Bool
 here_and seen d rest = is_some (as_object d) && (is_new seen (id_of d) && rest)
 
 unrolled : (vs : List Value) (i : ℕ) (v : Value) (seen : List ℤ) → i < length vs → v ≡ get_or vs i v
-    → are_distinct seen (items_view (drop i vs))
-    ≡ here_and seen (view v) (are_distinct (with_id seen (id_of (view v))) (items_view (drop (i + 1) vs)))
+    → distinct_after seen (items_view (drop i vs))
+    ≡ here_and seen (view v) (distinct_after (with_id (id_of (view v)) seen) (items_view (drop (i + 1) vs)))
 unrolled vs i v seen lt is =
-    at_drop_more (λ (ws : List Value). are_distinct seen (items_view ws)) vs i v lt
-    ∙ ap (λ (w : Value). here_and seen (view w) (are_distinct (with_id seen (id_of (view w))) (items_view (drop (i + 1) vs))))
+    at_drop_more (λ (ws : List Value). distinct_after seen (items_view ws)) vs i v lt
+    ∙ ap (λ (w : Value). here_and seen (view w) (distinct_after (with_id (id_of (view w)) seen) (items_view (drop (i + 1) vs))))
     (sym is)
 
 -- an object with a new id: the others decide
 pub distinct_on : (vs : List Value) (i : ℕ) (v : Value) (seen : List ℤ) (total : Bool) → i < length vs → v ≡ get_or vs i v
     → true ≡ is_some (as_object (view v)) → true ≡ is_new seen (id_of (view v))
-    → are_distinct seen (items_view (drop i vs)) ≡ total
-    → are_distinct (with_id seen (id_of (view v))) (items_view (drop (i + 1) vs)) ≡ total
+    → distinct_after seen (items_view (drop i vs)) ≡ total
+    → distinct_after (with_id (id_of (view v)) seen) (items_view (drop (i + 1) vs)) ≡ total
 distinct_on vs i v seen total lt is object new so_far =
-    let rest = are_distinct (with_id seen (id_of (view v))) (items_view (drop (i + 1) vs)) in
+    let rest = distinct_after (with_id (id_of (view v)) seen) (items_view (drop (i + 1) vs)) in
     (ap (λ (b : Bool). b && rest) new ∙ ap (λ (b : Bool). b && (is_new seen (id_of (view v)) && rest)) object
     ∙ sym (unrolled vs i v seen lt is) ∙ so_far)
 
 -- no object
 pub distinct_stop : (vs : List Value) (i : ℕ) (v : Value) (seen : List ℤ) (total : Bool) → i < length vs
-    → v ≡ get_or vs i v → false ≡ is_some (as_object (view v)) → are_distinct seen (items_view (drop i vs)) ≡ total
+    → v ≡ get_or vs i v → false ≡ is_some (as_object (view v)) → distinct_after seen (items_view (drop i vs)) ≡ total
     → total ≡ false
 distinct_stop vs i v seen total lt is object so_far =
-    let rest = are_distinct (with_id seen (id_of (view v))) (items_view (drop (i + 1) vs)) in
+    let rest = distinct_after (with_id (id_of (view v)) seen) (items_view (drop (i + 1) vs)) in
     sym so_far ∙ unrolled vs i v seen lt is
     ∙ sym (ap (λ (b : Bool). b && (is_new seen (id_of (view v)) && rest)) object)
 
@@ -47,18 +48,18 @@ and_false false = refl
 
 -- an id that was seen
 pub distinct_twice : (vs : List Value) (i : ℕ) (v : Value) (seen : List ℤ) (total : Bool) → i < length vs
-    → v ≡ get_or vs i v → false ≡ is_new seen (id_of (view v)) → are_distinct seen (items_view (drop i vs)) ≡ total
+    → v ≡ get_or vs i v → false ≡ is_new seen (id_of (view v)) → distinct_after seen (items_view (drop i vs)) ≡ total
     → total ≡ false
 distinct_twice vs i v seen total lt is new so_far =
-    let rest = are_distinct (with_id seen (id_of (view v))) (items_view (drop (i + 1) vs)) in
+    let rest = distinct_after (with_id (id_of (view v)) seen) (items_view (drop (i + 1) vs)) in
     sym so_far ∙ unrolled vs i v seen lt is
     ∙ sym (ap (λ (b : Bool). is_some (as_object (view v)) && (b && rest)) new) ∙ and_false (is_some (as_object (view v)))
 
 -- the end
 pub distinct_end : (vs : List Value) (i : ℕ) (seen : List ℤ) (total : Bool) → length vs ≤ i
-    → are_distinct seen (items_view (drop i vs)) ≡ total → total ≡ true
+    → distinct_after seen (items_view (drop i vs)) ≡ total → total ≡ true
 distinct_end vs i seen total le so_far =
-    sym so_far ∙ at_drop_all (λ (ws : List Value). are_distinct seen (items_view ws)) vs i le
+    sym so_far ∙ at_drop_all (λ (ws : List Value). distinct_after seen (items_view ws)) vs i le
 
 -- ---- limits
 

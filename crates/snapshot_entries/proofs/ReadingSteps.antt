@@ -11,10 +11,11 @@ use Rattle.json_members.specs.Plain.{ItemsArePlain}
 use Rattle.snapshot_entries.specs.declared.snapshot.Snapshot.{Snapshot}
 use Rattle.snapshot_entries.specs.declared.refusal.SnapshotRefusal.{SnapshotRefusal}
 use Rattle.snapshot_entries.specs.FoundLaws.{snapshots_found, snapshots_only}
-use Rattle.snapshot_entries.specs.KeptLaws.{entries_kept}
-use Rattle.snapshot_entries.specs.Reading.{path_by, of_members, snapshot_of, snapshot_at, snapshots_from}
+use Rattle.snapshot_entries.specs.KeptLaws.{kept}
+use Rattle.snapshot_entries.specs.List.{limits_checked}
+use Rattle.snapshot_entries.specs.Reading.{path_by, of_members, snapshot_of, snapshot_at, snapshots_from, snapshots_in}
 use Rattle.snapshot_entries.specs.Refusal.{is_memory}
-use Rattle.snapshot_entries.specs.Relation.{AreEntries}
+use Rattle.snapshot_entries.specs.Relation.{AreSnapshotsOf}
 use Rattle.snapshot_entries.specs.Snapshot.{AreSnapshots}
 
 -- a snapshot is read: the others decide
@@ -52,25 +53,38 @@ path_refused version last ms e is =
 
 -- ---- the clauses of the whole
 
+-- the list is within its limits: its snapshots decide
+pub limits_passed : (version : Version) (last : ℤ) (items : Items) (result : Result (List Snapshot) SnapshotRefusal)
+    → limits_checked items ≡ Ok tt → Gives is_memory (λ read. read) result (snapshots_from version last [] items)
+    → Gives is_memory (λ read. read) result (snapshots_in version last items)
+limits_passed version last items result within given =
+    let read = ap (λ (r : Result (Unit {0}) SnapshotRefusal). r >>= (λ _. snapshots_from version last [] items)) within in
+    subst (Gives is_memory (λ read. read) result) (sym read) given
+
+-- it isn't
+pub limits_refused : (version : Version) (last : ℤ) (items : Items) (e : SnapshotRefusal)
+    → limits_checked items ≡ Err e → snapshots_in version last items ≡ Err e
+limits_refused version last items e is =
+    ap (λ (r : Result (Unit {0}) SnapshotRefusal). r >>= (λ _. snapshots_from version last [] items)) is
+
 -- what is read are the snapshots of the list
 pub found_so : (version : Version) (last : ℤ) (items : Items) (result : Result (List Snapshot) SnapshotRefusal)
-    → Gives is_memory (λ read. read) result (snapshots_from version last [] items)
-    → IfOk result (AreEntries version last items)
-found_so version last items (Ok snapshots) given =
-    let p = snapshots_found version last [] items snapshots given in subst (AreEntries version last items) (sym p.1) p.2
+    → Gives is_memory (λ read. read) result (snapshots_in version last items)
+    → IfOk result (AreSnapshotsOf version last items)
+found_so version last items (Ok snapshots) given = snapshots_found version last items snapshots given
 found_so version last items (Err e) given = tt
 
 -- whatever snapshots it has are read
 pub only_so : (version : Version) (last : ℤ) (items : Items) (result : Result (List Snapshot) SnapshotRefusal)
-    → Gives is_memory (λ read. read) result (snapshots_from version last [] items) → (snapshots : List Snapshot)
-    → AreEntries version last items snapshots → Gives is_memory (λ read. read) result (Ok snapshots)
+    → Gives is_memory (λ read. read) result (snapshots_in version last items) → (snapshots : List Snapshot)
+    → AreSnapshotsOf version last items snapshots → Gives is_memory (λ read. read) result (Ok snapshots)
 only_so version last items result given snapshots are =
-    subst (Gives is_memory (λ read. read) result) (snapshots_only version last [] items snapshots are) given
+    subst (Gives is_memory (λ read. read) result) (snapshots_only version last items snapshots are) given
 
 -- they have objects that are read as them
 pub kept_so : (version : Version) (last : ℤ) (items : Items) (result : Result (List Snapshot) SnapshotRefusal)
-    → Gives is_memory (λ read. read) result (snapshots_from version last [] items) → ItemsArePlain 125 items
+    → Gives is_memory (λ read. read) result (snapshots_in version last items) → ItemsArePlain 125 items
     → IfOk result (AreSnapshots version last)
 kept_so version last items (Ok snapshots) given plain =
-    entries_kept version last items snapshots plain (found_so version last items (Ok snapshots) given)
+    kept version last items snapshots plain (snapshots_found version last items snapshots given)
 kept_so version last items (Err e) given plain = tt

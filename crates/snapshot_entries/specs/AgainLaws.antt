@@ -1,32 +1,27 @@
 -- The object of a snapshot is read as the snapshot.
-use Rattle.std.proofs.Common.{◌≡◌, ℕ, ℤ, List, [], ◌∷◌, map, Bool, true, ◌&&◌, Option, Some, None, option_map}
-use Rattle.std.proofs.Common.{Ok, codes, refl, sym, ap, subst, ◌∙◌}
+use Rattle.std.proofs.Common.{◌≡◌, ◌≤◌, ℕ, ℤ, pos, int_lt, List, [], ◌∷◌, length, map, Bool, true, false, ◌&&◌, Option}
+use Rattle.std.proofs.Common.{Some, None, option_map, Ok, codes, refl, sym, ap, subst, ◌∙◌}
 use mathlib.Core.Path.{fun_ext}
 use Rattle.serde_json.specs.Data.{Data}
 use Rattle.serde_json.specs.Find.{get_member}
 use Rattle.serde_json.specs.View.{items_of}
-use Rattle.json_members.specs.declared.form.Form.{Form}
-use Rattle.json_members.specs.declared.form.Form.TheVariants.{Long, Natural}
-use Rattle.json_members.specs.declared.rows.Keep.TheVariants.{InField}
-use Rattle.json_members.specs.declared.rows.Need.{Need}
-use Rattle.json_members.specs.declared.rows.Need.TheVariants.{Needed, MayBeAbsent, MayBeNull}
 use Rattle.json_members.specs.declared.rows.Version.{Version}
 use Rattle.json_members.specs.declared.rows.Version.TheVariants.{Older, Newer}
 use Rattle.json_members.specs.FieldLaws.{get_fields, without_fields}
 use Rattle.json_members.specs.Form.{is_long}
 use Rattle.json_members.specs.LackLaws.{without_lacking, get_lacked}
-use Rattle.json_members.specs.Members.{without, with_fields, found_in, first_of, is_among, is_field_among, are_among}
-use Rattle.json_members.specs.RowLaws.{tested_right}
-use Rattle.json_members.specs.Rows.{Row, Lookup, tested, AreRight}
-use Rattle.json_members.specs.ValueLaws.{number_again, long_right, natural_right, maybe_again, maybe_right}
-use Rattle.json_members.specs.Values.{number_since, whole}
+use Rattle.json_members.specs.MeaningLaws.{long_written, natural_written, long_set_again, natural_set_again}
+use Rattle.json_members.specs.Members.{without, with_fields, found_in, is_among, is_field_among, are_among}
+use Rattle.json_members.specs.Rows.{Lookup}
+use Rattle.json_members.specs.Values.{whole}
 use Rattle.snapshot_entries.specs.declared.snapshot.Snapshot.{Snapshot}
 use Rattle.snapshot_entries.specs.FoundLaws.{snapshots_only}
-use Rattle.snapshot_entries.specs.Members.{rows, known}
+use Rattle.snapshot_entries.specs.List.{most_snapshots}
+use Rattle.snapshot_entries.specs.Members.{known}
 use Rattle.snapshot_entries.specs.Printing.{snapshot_fields, snapshot_value}
-use Rattle.snapshot_entries.specs.Reading.{snapshots_from}
-use Rattle.snapshot_entries.specs.Relation.{IsFound, IsSnapshotOf, AreEntries}
-use Rattle.snapshot_entries.specs.Snapshot.{IsNatural, IsLongIfAny, IsNewNumber, IsSnapshot, AreSnapshots}
+use Rattle.snapshot_entries.specs.Reading.{snapshots_in}
+use Rattle.snapshot_entries.specs.Relation.{IsNewNumberFound, IsFound, IsSnapshotOf, AreEntries, AreSnapshotsOf}
+use Rattle.snapshot_entries.specs.Snapshot.{IsLongIfAny, IsNewNumber, IsSnapshot, AreSnapshots}
 
 -- what is found in a snapshot's object
 abbrev pub looked : Snapshot → Lookup
@@ -41,9 +36,12 @@ long_any : (o : Option ℤ) (z : ℤ) → IsLongIfAny o → o ≡ Some z → is_
 long_any None z h is = absurd cc
 long_any (Some y) z h is = let same : y ≡ z = cc in ap is_long (sym same) ∙ h
 
-natural_any : (o : Option ℤ) (z : ℤ) → IsNewNumber Newer o → o ≡ Some z → IsNatural z
+natural_any : (o : Option ℤ) (z : ℤ) → IsNewNumber Newer o → o ≡ Some z
+    → (is_long z ≡ true) × (int_lt z (pos 0) ≡ false)
 natural_any None z h is = absurd cc
-natural_any (Some y) z h is = let same : y ≡ z = cc in subst IsNatural same h
+natural_any (Some y) z h is =
+    let same : y ≡ z = cc in
+    (ap is_long (sym same) ∙ h.fits, ap (λ (n : ℤ). int_lt n (pos 0)) (sym same) ∙ h.least)
 
 -- ---- the members that are left
 
@@ -80,83 +78,28 @@ fields_known_older s first added =
     (none_among (codes "first-row-id") s.first_row_id (known Older) first)
     (none_among (codes "added-rows") s.added_rows (known Older) added)
 
--- ---- the rows
-
-abbrev row : List ℕ → Need → Form → Version → Row
-row name need form since = record { name = name; need = need; form = form; since = since; keep = InField }
-
-natural_row : (name : List ℕ) (z : ℤ) → IsNatural z → tested (row name Needed Natural Older) (Some (whole z)) ≡ Ok tt
-natural_row name z h = tested_right (row name Needed Natural Older) (whole z) (natural_right z h.fits h.least)
-
-sequence_row : (name : List ℕ) (z : ℤ) → IsNatural z
-    → tested (row name MayBeAbsent Natural Older) (Some (whole z)) ≡ Ok tt
-sequence_row name z h = tested_right (row name MayBeAbsent Natural Older) (whole z) (natural_right z h.fits h.least)
-
-time_row : (name : List ℕ) (z : ℤ) → is_long z ≡ true → tested (row name Needed Long Older) (Some (whole z)) ≡ Ok tt
-time_row name z h = tested_right (row name Needed Long Older) (whole z) (long_right z h)
-
-long_row : (name : List ℕ) (o : Option ℤ) (elsewhere : Option Data) → IsLongIfAny o → elsewhere ≡ None
-    → tested (row name MayBeNull Long Older) (first_of (option_map whole o) elsewhere) ≡ Ok tt
-long_row name o elsewhere h none =
-    maybe_right (row name MayBeNull Long Older) o elsewhere refl none (λ z is. long_right z (long_any o z h is))
-
-new_row : (name : List ℕ) (o : Option ℤ) (elsewhere : Option Data) → IsNewNumber Newer o → elsewhere ≡ None
-    → tested (row name MayBeNull Natural Newer) (first_of (option_map whole o) elsewhere) ≡ Ok tt
-new_row name o elsewhere h none =
-    maybe_right (row name MayBeNull Natural Newer) o elsewhere refl none
-    (λ z is. natural_right z (natural_any o z h is).fits (natural_any o z h is).least)
-
 -- ---- a snapshot
 
--- the first five members are right, and so is this
-abbrev FirstAreRight : Lookup → Type 0 → Type 0
-FirstAreRight found rest =
-    (tested (row (codes "snapshot-id") Needed Natural Older) (found (codes "snapshot-id")) ≡ Ok tt)
-    × ((tested (row (codes "timestamp-ms") Needed Long Older) (found (codes "timestamp-ms")) ≡ Ok tt)
-    × ((tested (row (codes "sequence-number") MayBeAbsent Natural Older) (found (codes "sequence-number")) ≡ Ok tt)
-    × ((tested (row (codes "parent-snapshot-id") MayBeNull Long Older) (found (codes "parent-snapshot-id")) ≡ Ok tt)
-    × ((tested (row (codes "schema-id") MayBeNull Long Older) (found (codes "schema-id")) ≡ Ok tt) × rest))))
-
--- nothing is carried at these names, in each version
-record NotCarried (s : Snapshot) : Type 0 where
-  parent : get_member (codes "parent-snapshot-id") s.rest ≡ None
-  schema_id : get_member (codes "schema-id") s.rest ≡ None
-
--- the members of both versions are right, if those of the newer one are, and the last one
-all_right : (version : Version) (last : ℤ) (s : Snapshot) (newer : Type 0) → IsSnapshot version last s → NotCarried s
-    → newer → FirstAreRight (looked s) newer
-all_right version last s newer h none rest = (
-  natural_row (codes "snapshot-id") s.id h.id,
-  (
-    time_row (codes "timestamp-ms") s.time h.time,
-    (
-      sequence_row (codes "sequence-number") s.sequence h.sequence,
-      (
-        long_row (codes "parent-snapshot-id") s.parent _ h.parent none.parent,
-        (long_row (codes "schema-id") s.schema_id _ h.schema_id none.schema_id, rest),
-      ),
-    ),
-  ),
-)
-
 -- what is found in its object, with what differs by version
-found_with : (version : Version) (last : ℤ) (s : Snapshot) → IsSnapshot version last s → NotCarried s
-    → AreRight (looked s) (rows version)
-    → number_since version (looked s (codes "first-row-id")) ≡ s.first_row_id
-    → number_since version (looked s (codes "added-rows")) ≡ s.added_rows
+found_with : (version : Version) (last : ℤ) (s : Snapshot) → IsSnapshot version last s
+    → get_member (codes "parent-snapshot-id") s.rest ≡ None → get_member (codes "schema-id") s.rest ≡ None
+    → IsNewNumberFound version (looked s (codes "first-row-id")) s.first_row_id
+    → IsNewNumberFound version (looked s (codes "added-rows")) s.added_rows
     → are_among (snapshot_fields s) (known version) ≡ true
     → IsFound version last (looked s) (without (known version) (with_fields (snapshot_fields s) s.rest)) s
-found_with version last s h none right first_row_id added_rows among = record {
-  right = right;
-  id = number_again s.id h.id.fits;
-  parent = maybe_again s.parent _ none.parent (λ z. long_any s.parent z h.parent);
-  sequence = number_again s.sequence h.sequence.fits;
+found_with version last s h parent schema_id first_row_id added_rows among = record {
+  id = natural_written s.id h.id.fits h.id.least;
+  time = long_written s.time h.time;
+  sequence = natural_written s.sequence h.sequence.fits h.sequence.least;
   passed = h.passed;
-  time = number_again s.time h.time;
-  list = refl;
-  schema_id = maybe_again s.schema_id _ none.schema_id (λ z. long_any s.schema_id z h.schema_id);
+  parent = long_set_again s.parent (get_member (codes "parent-snapshot-id") s.rest) parent
+      (λ z. long_any s.parent z h.parent);
+  schema_id = long_set_again s.schema_id (get_member (codes "schema-id") s.rest) schema_id
+      (λ z. long_any s.schema_id z h.schema_id);
   first_row_id = first_row_id;
   added_rows = added_rows;
+  list = refl;
+  path = h.path;
   rest = left_is version last s h among;
 }
 
@@ -164,25 +107,18 @@ found_with version last s h none right first_row_id added_rows among = record {
 found_again : (version : Version) (last : ℤ) (s : Snapshot) → IsSnapshot version last s
     → IsFound version last (looked s) (without (known version) (with_fields (snapshot_fields s) s.rest)) s
 found_again Older last s h =
-    let none : NotCarried s = record {
-      parent = get_lacked (codes "parent-snapshot-id") (known Older) s.rest refl h.carried;
-      schema_id = get_lacked (codes "schema-id") (known Older) s.rest refl h.carried;
-    } in
-    found_with Older last s h none (all_right Older last s _ h none (refl, tt)) (sym h.first_row_id) (sym h.added_rows)
+    found_with Older last s h (get_lacked (codes "parent-snapshot-id") (known Older) s.rest refl h.carried)
+    (get_lacked (codes "schema-id") (known Older) s.rest refl h.carried) h.first_row_id h.added_rows
     (fields_known_older s h.first_row_id h.added_rows)
 found_again Newer last s h =
-    let none : NotCarried s = record {
-      parent = get_lacked (codes "parent-snapshot-id") (known Newer) s.rest refl h.carried;
-      schema_id = get_lacked (codes "schema-id") (known Newer) s.rest refl h.carried;
-    } in
-    let first = get_lacked (codes "first-row-id") (known Newer) s.rest refl h.carried in
-    let added = get_lacked (codes "added-rows") (known Newer) s.rest refl h.carried in
-    found_with Newer last s h none (all_right Newer last s _ h none (
-      new_row (codes "first-row-id") s.first_row_id _ h.first_row_id first,
-      (new_row (codes "added-rows") s.added_rows _ h.added_rows added, (refl, tt)),
-    ))
-    (maybe_again s.first_row_id _ first (λ z is. (natural_any s.first_row_id z h.first_row_id is).fits))
-    (maybe_again s.added_rows _ added (λ z is. (natural_any s.added_rows z h.added_rows is).fits))
+    found_with Newer last s h (get_lacked (codes "parent-snapshot-id") (known Newer) s.rest refl h.carried)
+    (get_lacked (codes "schema-id") (known Newer) s.rest refl h.carried)
+    (natural_set_again s.first_row_id (get_member (codes "first-row-id") s.rest)
+    (get_lacked (codes "first-row-id") (known Newer) s.rest refl h.carried)
+    (λ z. natural_any s.first_row_id z h.first_row_id))
+    (natural_set_again s.added_rows (get_member (codes "added-rows") s.rest)
+    (get_lacked (codes "added-rows") (known Newer) s.rest refl h.carried)
+    (λ z. natural_any s.added_rows z h.added_rows))
     (fields_known_newer s)
 
 -- its object is the snapshot
@@ -208,8 +144,15 @@ entries_again version last (s ∷ snapshots) h = (
   entries_again version last snapshots h.1,
 )
 
+-- of few snapshots they are a list within its limits
+pub list_again : (version : Version) (last : ℤ) (snapshots : List Snapshot) → AreSnapshots version last snapshots
+    → length snapshots ≤ most_snapshots
+    → AreSnapshotsOf version last (items_of (map snapshot_value snapshots)) snapshots
+list_again version last snapshots h few = record { few = few; entries = entries_again version last snapshots h }
+
 -- and are read as them
 pub snapshots_again : (version : Version) (last : ℤ) (snapshots : List Snapshot) → AreSnapshots version last snapshots
-    → snapshots_from version last [] (items_of (map snapshot_value snapshots)) ≡ Ok snapshots
-snapshots_again version last snapshots h =
-    snapshots_only version last [] _ snapshots (entries_again version last snapshots h)
+    → length snapshots ≤ most_snapshots
+    → snapshots_in version last (items_of (map snapshot_value snapshots)) ≡ Ok snapshots
+snapshots_again version last snapshots h few =
+    snapshots_only version last _ snapshots (list_again version last snapshots h few)

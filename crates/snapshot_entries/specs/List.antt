@@ -1,51 +1,56 @@
 -- The checks of a whole list of snapshots: its ids, and its limits.
 use Rattle.std.specs.Prelude.{ℕ, ℤ, nat_lt, length, Bool, true, false, not, ◌&&◌, ◌||◌, List, [], ◌∷◌, Option, Some}
-use Rattle.std.specs.Prelude.{None}
-use Rattle.std.specs.Prelude.{Result, Ok, Err, codes, is_some, option_and_then, unwrap_or, if◌then◌else◌}
+use Rattle.std.specs.Prelude.{None, Result, Ok, Err, codes, is_some, if◌then◌else◌}
 use Rattle.std.specs.Ordering.{int_eq}
 use Rattle.serde_json.specs.Data.{Data, Items, no_items, item}
 use Rattle.serde_json.specs.Events.{items_len}
 use Rattle.serde_json.specs.Find.{get, as_object}
-use Rattle.json_members.specs.Values.{number_in, text_in}
+use Rattle.json_members.specs.Values.{number_in, text_or_empty}
 use Rattle.snapshot_entries.specs.declared.refusal.SnapshotRefusal.{SnapshotRefusal}
 use Rattle.snapshot_entries.specs.declared.refusal.SnapshotRefusal.TheVariants.{Wrong, Snapshots, Path}
 
 -- ---- ids
 
+-- all items are objects
+abbrev pub are_objects : Items → Bool
+are_objects no_items = true
+are_objects (item value items) = is_some (as_object value) && are_objects items
+
 -- the id of a snapshot, if it is a number
 abbrev pub id_of : Data → Option ℤ
 id_of value = number_in (get (codes "snapshot-id") value)
 
+-- an id, if there is one, before others
+abbrev pub with_id : Option ℤ → List ℤ → List ℤ
+with_id None ids = ids
+with_id (Some id) ids = id ∷ ids
+
+-- the ids that are numbers, in order
+abbrev pub ids_of : Items → List ℤ
+ids_of no_items = []
+ids_of (item value items) = with_id (id_of value) (ids_of items)
+
+-- the id is among these
 abbrev pub has_id : List ℤ → ℤ → Bool
 has_id [] id = false
 has_id (other ∷ ids) id = int_eq other id || has_id ids id
 
-abbrev pub is_new : List ℤ → Option ℤ → Bool
-is_new ids None = true
-is_new ids (Some id) = not (has_id ids id)
+-- no id is among those after it
+abbrev pub are_apart : List ℤ → Bool
+are_apart [] = true
+are_apart (id ∷ ids) = not (has_id ids id) && are_apart ids
 
-abbrev pub with_id : List ℤ → Option ℤ → List ℤ
-with_id ids None = ids
-with_id ids (Some id) = id ∷ ids
+-- all items are objects, and no two have one id
+abbrev pub are_distinct : Items → Bool
+are_distinct items = are_objects items && are_apart (ids_of items)
 
--- all are objects, and the ids that are numbers are none of these and distinct
-abbrev pub are_distinct : List ℤ → Items → Bool
-are_distinct ids no_items = true
-are_distinct ids (item value items) =
-    is_some (as_object value) && (is_new ids (id_of value) && are_distinct (with_id ids (id_of value)) items)
-
+-- a list of other items is refused
 abbrev pub ids_checked : Items → Result (Unit {0}) SnapshotRefusal
-ids_checked items = if are_distinct [] items then Ok tt else Err (Wrong (codes "snapshots"))
-
--- a number that is found is this one
-abbrev pub is_that : ℤ → Option ℤ → Bool
-is_that id None = false
-is_that id (Some other) = int_eq other id
+ids_checked items = if are_distinct items then Ok tt else Err (Wrong (codes "snapshots"))
 
 -- some snapshot has the id
 abbrev pub has_snapshot : Items → ℤ → Bool
-has_snapshot no_items id = false
-has_snapshot (item value items) id = is_that id (id_of value) || has_snapshot items id
+has_snapshot items id = has_id (ids_of items) id
 
 -- ---- limits
 
@@ -59,7 +64,7 @@ most_path = 1024
 
 -- how long the path of the manifest list is; 0 if there is no text
 abbrev pub path_length : Data → ℕ
-path_length value = length (unwrap_or (text_in (get (codes "manifest-list") value)) [])
+path_length value = length (text_or_empty (get (codes "manifest-list") value))
 
 -- the first path that is too long is refused
 abbrev pub paths_checked : Items → Result (Unit {0}) SnapshotRefusal

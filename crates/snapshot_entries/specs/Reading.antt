@@ -1,5 +1,5 @@
 -- The snapshot that the members of an object are, or the first check that refuses them.
-use Rattle.std.specs.Prelude.{ℕ, ℤ, int_lt, Bool, List, [], ◌∷◌, ◌++◌, Option, Some, None, Result, Ok, Err, codes}
+use Rattle.std.specs.Prelude.{ℕ, ℤ, int_lt, List, [], ◌∷◌, ◌++◌, Option, Some, None, Result, Ok, Err, codes}
 use Rattle.std.specs.Prelude.{if◌then◌else◌}
 use Rattle.words.specs.Reading.{◌>>=◌, map_refusal}
 use Rattle.serde_json.specs.Data.{Data, Items, no_items, item, Members}
@@ -11,6 +11,7 @@ use Rattle.json_members.specs.Values.{number_in, number_since, number_or_0, text
 use Rattle.snapshot_entries.specs.declared.snapshot.Snapshot.{Snapshot}
 use Rattle.snapshot_entries.specs.declared.refusal.SnapshotRefusal.{SnapshotRefusal}
 use Rattle.snapshot_entries.specs.declared.refusal.SnapshotRefusal.TheVariants.{Wrong, NoManifestList}
+use Rattle.snapshot_entries.specs.List.{limits_checked}
 use Rattle.snapshot_entries.specs.Members.{first_rows, other_rows, known}
 use Rattle.snapshot_entries.specs.Refusal.{of_fault}
 
@@ -77,3 +78,7 @@ abbrev pub snapshots_from : Version → ℤ → List Snapshot → Items → Resu
 snapshots_from version last seen no_items = Ok seen
 snapshots_from version last seen (item value items) =
     snapshot_at version last value >>= (λ snapshot. snapshots_from version last (seen ++ snapshot ∷ []) items)
+
+-- the snapshots of a list within its limits
+abbrev pub snapshots_in : Version → ℤ → Items → Result (List Snapshot) SnapshotRefusal
+snapshots_in version last items = limits_checked items >>= (λ _. snapshots_from version last [] items)

@@ -1,11 +1,12 @@
 -- Which snapshots have a JSON object that is read as them.
-use Rattle.std.specs.Prelude.{◌≡◌, ◌≤ℤ◌, ℤ, pos, int_lt, ⊤, true, false, List, [], ◌∷◌, Option, Some, None}
+use Rattle.std.specs.Prelude.{◌≡◌, ◌≤◌, ◌≤ℤ◌, ℤ, pos, int_lt, ⊤, true, false, List, [], ◌∷◌, length, Option, Some, None}
 use Rattle.json_members.specs.declared.rows.Version.{Version}
 use Rattle.json_members.specs.declared.rows.Version.TheVariants.{Older, Newer}
 use Rattle.json_members.specs.Form.{is_long}
 use Rattle.json_members.specs.Members.{lacks}
 use Rattle.json_members.specs.Plain.{ArePlain}
 use Rattle.snapshot_entries.specs.declared.snapshot.Snapshot.{Snapshot}
+use Rattle.snapshot_entries.specs.List.{most_path}
 use Rattle.snapshot_entries.specs.Members.{known}
 
 -- a number from 0 to 2^63 - 1
@@ -34,6 +35,7 @@ pub record IsSnapshot (version : Version) (last : ℤ) (s : Snapshot) : Type 0 w
   pub schema_id : IsLongIfAny s.schema_id
   pub first_row_id : IsNewNumber version s.first_row_id
   pub added_rows : IsNewNumber version s.added_rows
+  pub path : length s.list ≤ most_path
   pub carried : lacks (known version) s.rest ≡ true
   pub plain : ArePlain 124 s.rest
 

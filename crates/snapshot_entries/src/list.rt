@@ -1,9 +1,9 @@
 //! The checks of a whole list of snapshots.
 
-ghost use Rattle.std.specs.Prelude.{◌≡◌, [], true, Ok, IfErr, IfOk, OnOk, ℤ, List};
+ghost use Rattle.std.specs.Prelude.{◌≡◌, true, Ok, IfErr, IfOk, OnOk, ℤ, List};
 ghost use Rattle.serde_json.specs.View.{view, items_view};
 ghost use Rattle.words.specs.Reading.{Gives, never};
-ghost use Rattle.snapshot_entries.specs.Ids.{HasIds};
+ghost use Rattle.snapshot_entries.specs.Ids.{HasIds, is_new};
 ghost use Rattle.snapshot_entries.specs.List as spec;
 ghost use Rattle.snapshot_entries.specs.Refusal.{is_memory};
 
@@ -92,7 +92,7 @@ fn id_of(item: &Value) -> Option<i64>
 /// Whether all items are objects, and no two have one id.
 fn are_distinct(alloc: Global, items: &[Value]) -> Result<bool, SnapshotRefusal>
     ensures exact { Gives is_memory (λ right. right) result
-        (Ok (spec.are_distinct [] (items_view items.now))) }
+        (Ok (spec.are_distinct (items_view items.now))) }
 {
     let mut ids = BTreeSet::new(alloc);
     for item in items {
@@ -109,9 +109,9 @@ fn are_distinct(alloc: Global, items: &[Value]) -> Result<bool, SnapshotRefusal>
 /// Whether the id is new. It is then added.
 fn is_new(ids: &mut BTreeSet<i64>, id: Option<i64>) -> Result<bool, SnapshotRefusal>
     ensures answer { (seen : List ℤ) → HasIds ids.old seen
-        → IfOk result (λ new. new ≡ spec.is_new seen id) }
+        → IfOk result (λ new. new ≡ is_new seen id) }
     ensures kept { (seen : List ℤ) → HasIds ids.old seen
-        → OnOk result (HasIds ids.new (spec.with_id seen id)) }
+        → OnOk result (HasIds ids.new (spec.with_id id seen)) }
     ensures memory { IfErr result (λ e. is_memory e ≡ true) }
 {
     match id {

@@ -13,7 +13,7 @@ use std::alloc::{AllocError, Global};
 
 /// The objects of the snapshots, in order. An `Err` says that memory ran out.
 pub fn snapshot_values(alloc: Global, snapshots: &[Snapshot]) -> Result<Vec<Value>, AllocError>
-    ensures { IfOk result (λ values. map view values.items
+    ensures exact { IfOk result (λ values. map view values.items
         ≡ map spec.snapshot_value snapshots.now) }
 {
     let mut values = Vec::new(alloc);

@@ -8,41 +8,57 @@ ghost use Rattle.words.specs.Reading.{Gives};
 ghost use Rattle.snapshot_entries.specs.declared.snapshot.Snapshot.{Snapshot as ASnapshot};
 ghost use Rattle.snapshot_entries.specs.Reading as spec;
 ghost use Rattle.snapshot_entries.specs.Refusal.{is_memory};
-ghost use Rattle.snapshot_entries.specs.Relation.{AreEntries};
+ghost use Rattle.snapshot_entries.specs.Relation.{AreSnapshotsOf};
 ghost use Rattle.snapshot_entries.specs.Snapshot.{AreSnapshots};
 
+use crate::list::check_limits;
 use crate::members::{first_members, members as all_members, other_members};
 use crate::refusal::SnapshotRefusal;
 use crate::snapshot::{Snapshot, Snapshots};
+use crate::tree::Tree;
 use avro_wire::Text;
 use json_members::{
-    Members, Tree, Version, check_all, leave_out_fields, number_at, number_or_0, number_since,
-    text_at, wrong,
+    Members, Version, check_all, leave_out_fields, number_at, number_or_0, number_since, text_at,
+    wrong,
 };
 use lists::List;
 use serde_json::Value;
 use std::alloc::Global;
 
 /// The snapshots of a table of this version, whose last sequence number is `last`, read from the
-/// items of its list in order. What has no field is moved, and not copied.
+/// items of its list in order. The limits of the list are checked first. What has no field is
+/// moved, and not copied.
 pub fn read_snapshots(
     alloc: Global,
     version: Version,
     last: i64,
     items: Vec<Value>,
 ) -> Result<Snapshots, SnapshotRefusal>
-    // They are those of the objects, and whatever has such objects is read.
-    ensures found { IfOk result (AreEntries version last (items_view items.items)) }
+    // They are those of the objects, and each list that has snapshots is read.
+    ensures found { IfOk result (AreSnapshotsOf version last (items_view items.items)) }
     ensures only { (snapshots : List ASnapshot)
-        → AreEntries version last (items_view items.items) snapshots
+        → AreSnapshotsOf version last (items_view items.items) snapshots
         → Gives is_memory (λ read. read) result (Ok snapshots) }
     // Which refusal comes.
     ensures exact { Gives is_memory (λ read. read) result
-        (spec.snapshots_from version last [] (items_view items.items)) }
+        (spec.snapshots_in version last (items_view items.items)) }
     // Each has an object that is read as it.
     ensures kept { ItemsArePlain 125 (items_view items.items)
         → IfOk result (AreSnapshots version last) }
 {
+    snapshots_in(alloc, version, last, items)
+}
+
+fn snapshots_in(
+    alloc: Global,
+    version: Version,
+    last: i64,
+    items: Vec<Value>,
+) -> Result<Snapshots, SnapshotRefusal>
+    ensures exact { Gives is_memory (λ read. read) result
+        (spec.snapshots_in version last (items_view items.items)) }
+{
+    check_limits(&items)?;
     snapshots_of(alloc, version, last, items)
 }
 
@@ -139,7 +155,7 @@ fn path_of(
 
 /// Checks that the sequence number is at most the table's last one.
 fn check_passed(alloc: Global, last: i64, sequence: i64) -> Result<(), SnapshotRefusal>
-    ensures { Gives is_memory (λ _. tt) result (spec.passed last sequence) }
+    ensures exact { Gives is_memory (λ _. tt) result (spec.passed last sequence) }
 {
     if last < sequence {
         return Err(wrong(alloc, "sequence-number").into());

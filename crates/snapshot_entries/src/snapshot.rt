@@ -1,7 +1,7 @@
 //! A snapshot of a table.
 
+use crate::tree::Tree;
 use avro_wire::Text;
-use json_members::Tree;
 use lists::{Copied, List};
 use std::alloc::{AllocError, Global};
 

@@ -1,10 +1,12 @@
-//! A JSON object that owns its members.
+//! The members of a JSON object that have no field.
 
-ghost use Rattle.std.specs.Prelude.{◌≡◌, IfOk};
+ghost use Rattle.std.specs.Prelude.{◌≡◌, IfOk, option_map};
 ghost use Rattle.serde_json.specs.View.{members_view};
+ghost use Rattle.snapshot_entries.specs.Summary as spec;
 
-use crate::members::Members;
-use std::alloc::AllocError;
+use json_members::{Members, member, put, text_at};
+use serde_json::Value;
+use std::alloc::{AllocError, Global};
 use std::default::Emptied;
 use std::marker::Model;
 
@@ -15,7 +17,7 @@ pub struct Tree {
 }
 
 impl Model for Tree {
-    ghost use Rattle.json_members.specs.Coded.{members_code};
+    ghost use Rattle.snapshot_entries.specs.Coded.{members_code};
     ghost use Rattle.serde_json.specs.Data as values;
     ghost use Rattle.serde_json.specs.View.{members_view};
 
@@ -32,6 +34,30 @@ impl Tree {
         ensures { result ≡ members_view members.entries }
     {
         Tree { members }
+    }
+
+    /// A summary that names this operation, and nothing else. An `Err` says that memory ran out.
+    /// Iceberg spec, "Snapshots".
+    pub fn with_operation(alloc: Global, operation: &str) -> Result<Tree, AllocError>
+        ensures { IfOk result (λ t. t ≡ spec.of_operation operation.now) }
+    {
+        let mut summary = Members::new(alloc);
+        let text = Value::try_from_str(alloc, operation)?;
+        put(alloc, &mut summary, "operation", text)?;
+        let mut members = Members::new(alloc);
+        put(alloc, &mut members, "summary", Value::Object(summary))?;
+        Ok(Tree { members })
+    }
+
+    /// The operation that the summary names. `None`: there is no summary, or no text there.
+    /// Iceberg spec, "Snapshots".
+    pub fn operation(&self) -> Option<&str>
+        ensures { option_map (λ text. text.now) result ≡ spec.operation self.now }
+    {
+        match summary(&self.members) {
+            Some(summary) => text_at(summary, "operation"),
+            None => None,
+        }
     }
 
     /// The members, borrowed.
@@ -54,6 +80,17 @@ impl Tree {
     {
         let members = copy_members(&self.members)?;
         Ok(Tree { members })
+    }
+}
+
+/// The members of the summary. `None`: there is none that is an object.
+fn summary(members: &Members) -> Option<&Members>
+    ensures { option_map (λ summary. members_view summary.now.entries) result
+        ≡ spec.summary (members_view members.now.entries) }
+{
+    match member(members, "summary") {
+        Some(value) => value.as_object(),
+        None => None,
     }
 }
 
