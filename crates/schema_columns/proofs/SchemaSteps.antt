@@ -4,7 +4,6 @@ use Rattle.std.specs.Prelude.{IfOk}
 use Rattle.words.specs.Reading.{Gives}
 use Rattle.serde_json.specs.Data.{Members}
 use Rattle.row_types.specs.declared.column.Column.{Column}
-use Rattle.row_types.specs.Columns.{IsColumns}
 use Rattle.schema_columns.specs.declared.refusal.ColumnRefusal.{ColumnRefusal}
 use Rattle.schema_columns.specs.FoundLaws.{schema_found, schema_only}
 use Rattle.schema_columns.specs.Reading.{columns_in}
@@ -13,9 +12,9 @@ use Rattle.schema_columns.specs.Relation.{IsSchema}
 
 -- what is read are the schema's columns
 pub found_so : (schema : Members) (result : Result (List Column) ColumnRefusal)
-    → Gives is_memory (λ read. read) result (columns_in schema) → IfOk result IsColumns → IfOk result (IsSchema schema)
-found_so schema (Ok columns) given right = schema_found schema columns given right
-found_so schema (Err e) given right = tt
+    → Gives is_memory (λ read. read) result (columns_in schema) → IfOk result (IsSchema schema)
+found_so schema (Ok columns) given = schema_found schema columns given
+found_so schema (Err e) given = tt
 
 -- whatever columns it has are read
 pub only_so : (schema : Members) (result : Result (List Column) ColumnRefusal)

@@ -28,7 +28,7 @@ use Rattle.row_types.specs.declared.column.Kind.TheVariants as kinds
 use Rattle.row_types.specs.Columns.{IsColumns, columns_of, largest_id, counted, refused, first_fault, has_wrong_id}
 use Rattle.row_types.specs.Columns.{has_wrong_name}
 use Rattle.row_types.specs.declared.columns.ColumnsRefusal.TheVariants.{Id, Name}
-use Rattle.row_types.specs.ColumnsLaws.{columns_accepted}
+use Rattle.row_types.specs.ColumnsLaws.{columns_accepted, accepted_same, accepted_columns}
 use Rattle.row_types.specs.KindWord.{kind_text}
 use Rattle.schema_columns.specs.declared.refusal.ColumnRefusal.{ColumnRefusal}
 use Rattle.schema_columns.specs.declared.refusal.ColumnRefusal.TheVariants.{Fields, ColumnType}
@@ -220,19 +220,10 @@ array_found (Some (string s)) items is = absurd cc
 array_found (Some (array others)) items is = let same : others ≡ items = cc in ap (λ (i : Items). Some (array i)) same
 array_found (Some (object ms)) items is = absurd cc
 
--- the columns of a table are the list itself
-same_list : (list columns : List Column) → columns_of list ≡ Ok columns → list ≡ columns
-unfolding columns_of
-same_list list columns is =
-    let a = bind_ok (counted list) _ columns is in
-    let b = bind_ok (refused (λ (c : Column). Id c.id) (first_fault has_wrong_id [] list)) _ columns a.2 in
-    let c = bind_ok (refused (λ (c : Column). Name c.name) (first_fault has_wrong_name [] list)) _ columns b.2 in
-    ok_is list columns c.2
-
 -- columns that are read are the schema's
-pub schema_found : (schema : Members) (columns : List Column) → columns_in schema ≡ Ok columns → IsColumns columns
+pub schema_found : (schema : Members) (columns : List Column) → columns_in schema ≡ Ok columns
     → IsSchema schema columns
-schema_found schema columns is right = by_fields (fields_found schema) refl is
+schema_found schema columns is = by_fields (fields_found schema) refl is
   where
     by_fields : (o : Option Items) → fields_found schema ≡ o → columns_or_wrong o ≡ Ok columns → IsSchema schema columns
     by_fields None found is = absurd cc
@@ -243,12 +234,13 @@ schema_found schema columns is right = by_fields (fields_found schema) refl is
         let k = bind_ok (kinds_checked items) _ p.0 a.2 in
         let each = fields_are [] items p.0 (each_all_right (codes "fields") (of_version Older members) items
         (map_ok of_fault _ tt a.1)) k.1 k.2 in
-        let same = sym each.1 ∙ same_list p.0 columns (map_ok (λ _. Fields) _ columns p.2) in
+        let accepted = map_ok (λ _. Fields) _ columns p.2 in
+        let same = sym each.1 ∙ accepted_same p.0 columns accepted in
         record {
           items = items;
           fields = array_found (get_member (codes "fields") schema) items found;
           each = subst (AreFields items) same each.2;
-          right = right;
+          right = accepted_columns p.0 columns accepted;
         }
 
 -- ---- what is found is read

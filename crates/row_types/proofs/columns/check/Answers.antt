@@ -1,6 +1,7 @@
 use Rattle.std.proofs.Common.{sym, arith, rules}
 use Rattle.row_types.specs.Columns.{columns_of}
-use Rattle.row_types.proofs.ColumnsLemmas.{are_columns, name_refused}
+use Rattle.row_types.specs.ColumnsLaws.{are_columns}
+use Rattle.row_types.proofs.ColumnsLemmas.{name_refused}
 use Rattle.row_types.proofs.columns.check.Goals as goal
 
 pub invariant_of-result : goal.invariant_of-result

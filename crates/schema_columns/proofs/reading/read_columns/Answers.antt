@@ -4,7 +4,7 @@ use Rattle.schema_columns.proofs.reading.read_columns.Goals as goal
 
 pub returns-clause-found : goal.returns-clause-found
 returns-clause-found c =
-    found_so (members_view c.args.schema.now.entries) c.columns_in.result c.columns_in.ensures.exact c.columns_in.ensures.right
+    found_so (members_view c.args.schema.now.entries) c.columns_in.result c.columns_in.ensures.exact
 
 pub returns-clause-only : goal.returns-clause-only
 returns-clause-only c =
