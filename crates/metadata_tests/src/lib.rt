@@ -3,10 +3,13 @@
 //! | Module | What it has |
 //! |---|---|
 //! | `columns` | columns of schemas, read and printed, or refused |
+//! | `metadata` | the metadata of tables, read and printed, or refused |
 //! | `snapshots` | lists of snapshots, read and printed, or refused |
 #![tactic(auto)]
 
 #[cfg(test)]
 mod columns;
+#[cfg(test)]
+mod metadata;
 #[cfg(test)]
 mod snapshots;

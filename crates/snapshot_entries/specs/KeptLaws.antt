@@ -22,7 +22,7 @@ use Rattle.snapshot_entries.specs.Snapshot.{IsNatural, IsLongIfAny, IsNewNumber,
 
 -- ---- numbers
 
-natural_kept : (found : Option Data) (z : ℤ) → natural_in found ≡ Some z → IsNatural z
+pub natural_kept : (found : Option Data) (z : ℤ) → natural_in found ≡ Some z → IsNatural z
 natural_kept None z is = absurd cc
 natural_kept (Some value) z is =
     let number = natural_is_number (Some value) z is in

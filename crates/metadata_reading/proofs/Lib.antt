@@ -1,0 +1,4 @@
+mod ReadingSteps
+mod MetadataSteps
+mod BraceSteps
+mod TextSteps

@@ -1,0 +1,8 @@
+use Rattle.std.proofs.Common.{◌≡◌, drop}
+use Rattle.serde_json.specs.View.{items_view}
+use Rattle.metadata_reading.specs.Schemas.{are_unpartitioned}
+use Rattle.metadata_reading.proofs.schemas.are_unpartitioned.Given as goal
+
+-- the others decide
+abbrev pub invariant-loop-item : goal.invariant-loop-item
+invariant-loop-item l = are_unpartitioned (items_view (drop l.item-index l.items)) ≡ are_unpartitioned (items_view l.items)

@@ -1,0 +1,17 @@
+pub mod Members
+pub mod Refusal
+pub mod Version
+pub mod Braces
+pub mod Schemas
+pub mod Reading
+pub mod Relation
+pub mod Table
+pub mod CheckLaws
+pub mod SchemaLaws
+pub mod PartLaws
+pub mod CurrentLaws
+pub mod FoundLaws
+pub mod RecordLaws
+pub mod OnlyLaws
+pub mod TextLaws
+pub mod TableLaws

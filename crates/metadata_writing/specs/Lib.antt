@@ -1,0 +1,5 @@
+pub mod Printing
+pub mod AgainLaws
+pub mod PlainLaws
+pub mod TextLaws
+pub mod PremiseLaws
