@@ -1,10 +1,8 @@
 //! The metadata of tables, read and printed, or refused.
 
-use limits::Which;
-use metadata_reading::{MetaRefusal, read_meta};
-use metadata_writing::{print_meta, schema_text};
 use std::alloc::{AllocError, Global};
 use std::test::Fail;
+use table_metadata::{MetaRefusal, print_meta, read_meta, schema_text};
 
 /// A table of version 3 without snapshots, and its current schema.
 static TABLE: &str =

@@ -1,0 +1,12 @@
+pub mod Logs
+pub mod Fresh
+pub mod Commit
+pub mod MayCome
+pub mod Upgrade
+pub mod LogLaws
+pub mod CarriedLaws
+pub mod LastLaws
+pub mod CommitLaws
+pub mod NameLaws
+pub mod UpgradeLaws
+pub mod FreshLaws
