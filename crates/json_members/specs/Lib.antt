@@ -5,6 +5,7 @@ pub mod Members
 pub mod Rows
 pub mod Values
 pub mod Meaning
+pub mod Cause
 pub mod Plain
 pub mod ParseLaws
 pub mod NumberLaws
@@ -12,6 +13,7 @@ pub mod MemberLaws
 pub mod FieldLaws
 pub mod LackLaws
 pub mod RowLaws
+pub mod CauseLaws
 pub mod ValueLaws
 pub mod MeaningLaws
 pub mod PlainLaws

@@ -5,11 +5,16 @@ pub mod Braces
 pub mod Schemas
 pub mod Reading
 pub mod Relation
+pub mod Cause
 pub mod Table
 pub mod CheckLaws
 pub mod SchemaLaws
 pub mod PartLaws
 pub mod CurrentLaws
+pub mod StepCauses
+pub mod CheckCauses
+pub mod PartCauses
+pub mod CauseLaws
 pub mod FoundLaws
 pub mod RecordLaws
 pub mod OnlyLaws

@@ -1,12 +1,14 @@
 //! The metadata of a JSON text.
 
-ghost use Rattle.std.specs.Prelude.{◌≡◌, ◌∷◌, [], codes, Ok, IfOk};
+ghost use Rattle.std.specs.Prelude.{◌≡◌, ◌∷◌, [], codes, Ok, IfErr, IfOk};
+ghost use Rattle.std.specs.Bool.{OnFalse};
 ghost use Rattle.serde_json.specs.Find.{get_member, as_object};
 ghost use Rattle.serde_json.specs.View.{view, members_view};
 ghost use Rattle.words.specs.Reading.{Gives};
 ghost use Rattle.json_members.specs.Members.{without};
 ghost use Rattle.json_members.specs.Values.{text_or_empty};
 ghost use Rattle.metadata_reading.specs.declared.meta.TableMeta.{TableMeta as Meta};
+ghost use Rattle.metadata_reading.specs.Cause.{IsMetaCause};
 ghost use Rattle.metadata_reading.specs.Members.{known};
 ghost use Rattle.metadata_reading.specs.Reading as spec;
 ghost use Rattle.metadata_reading.specs.Refusal.{is_memory};
@@ -43,8 +45,9 @@ pub fn read_meta(alloc: Global, bytes: &[u8]) -> Result<TableMeta, MetaRefusal>
         → Gives is_memory (λ meta. meta) result (Ok meta) }
     // Its printed text is read as it.
     ensures table { IfOk result IsTable }
-    // Which refusal comes.
+    // Which refusal comes, and why.
     ensures exact { Gives is_memory (λ meta. meta) result (spec.meta_of_text bytes.now) }
+    ensures cause { IfErr result (λ e. OnFalse (is_memory e) (IsMetaCause bytes.now e)) }
 {
     if has_too_many_braces(bytes) {
         return Err(MetaRefusal::Memory);

@@ -14,7 +14,7 @@ static SCHEMA: &str =
 /// A part of that text, what stands there instead, and what is printed there.
 type Read = (&'static str, &'static str, &'static str);
 
-static READ: [Read; 25] = [
+static READ: [Read; 29] = [
     ("", "", ""),
     // The table's id, in each form that is read.
     (
@@ -53,6 +53,11 @@ static READ: [Read; 25] = [
         "\"default-spec-id\":-2147483648",
         "\"default-spec-id\":-2147483648",
     ),
+    (
+        "\"default-spec-id\":0",
+        "\"default-spec-id\":2147483647",
+        "\"default-spec-id\":2147483647",
+    ),
     // Numbers of 64 bits without a sign are carried.
     (
         "\"last-partition-id\":999",
@@ -80,6 +85,11 @@ static READ: [Read; 25] = [
     (
         "\"location\":\"t\"",
         "\"location\":5,\"location\":\"u\"",
+        "\"location\":\"u\"",
+    ),
+    (
+        "\"location\":\"t\"",
+        "\"location\":1.5,\"location\":\"u\"",
         "\"location\":\"u\"",
     ),
     // Unknown members are carried, and their members are put in order.
@@ -126,12 +136,23 @@ static READ: [Read; 25] = [
         "\"schema-id\":0,\"type\":\"struct\"},{\"schema-id\":0}]",
         "\"schema-id\":0,\"type\":\"struct\"},{\"schema-id\":0}]",
     ),
+    // Schemas with other ids may stand before the current one, whatever their columns are.
+    (
+        "\"schemas\":[",
+        "\"schemas\":[{\"fields\":[],\"schema-id\":7},",
+        "\"schemas\":[{\"fields\":[],\"schema-id\":7},",
+    ),
+    (
+        "\"schemas\":[",
+        "\"schemas\":[{\"schema-id\":-1},",
+        "\"schemas\":[{\"schema-id\":-1},",
+    ),
 ];
 
 /// A part of that text, what stands there instead, and why the text is refused.
 type Refused = (&'static str, &'static str, &'static str);
 
-static REFUSED: [Refused; 55] = [
+static REFUSED: [Refused; 56] = [
     // No object of whole numbers.
     ("{\"current-schema-id\":0,", "", "NotJson"),
     ("{\"current-schema-id\":0,", "\u{feff}{", "NotJson"),
@@ -240,6 +261,11 @@ static REFUSED: [Refused; 55] = [
         "\"default-spec-id\":2147483648",
         "Wrong default-spec-id",
     ),
+    (
+        "\"default-spec-id\":0",
+        "\"default-spec-id\":-2147483649",
+        "Wrong default-spec-id",
+    ),
     ("\"next-row-id\":0,", "", "Missing next-row-id"),
     (
         "\"next-row-id\":0",
@@ -329,7 +355,7 @@ fn printed(alloc: Global, text: &str) -> Result<Vec<u8>, MetaRefusal> {
 }
 
 /// Whether this is the text of the refusal: its name, and what it holds.
-fn tells(refusal: &MetaRefusal, text: &str) -> bool {
+pub(crate) fn tells(refusal: &MetaRefusal, text: &str) -> bool {
     match refusal {
         MetaRefusal::NotJson => text == "NotJson",
         MetaRefusal::Fraction => text == "Fraction",
@@ -388,10 +414,12 @@ fn first_not_refused(alloc: Global) -> Result<Option<usize>, AllocError> {
 }
 
 /// Bytes that are no metadata, and an empty name if they are JSON.
-static BYTES: [(&[u8], &str); 5] = [
+static BYTES: [(&[u8], &str); 7] = [
     (b"", "NotJson"),
     (b"\xff", "NotJson"),
     (b"[]", "Wrong "),
+    (b"[1.5]", "Fraction"),
+    (b"{\"format-version\":1,\"a\":1.5}", "Fraction"),
     (b"null", "Wrong "),
     (b"{}", "Missing format-version"),
 ];
@@ -412,11 +440,23 @@ fn first_wrong_bytes(alloc: Global) -> Option<usize> {
     None
 }
 
+/// The first table of these three with a wrong row, and the row's place. `None`: there is none.
+fn first_fault(alloc: Global) -> Result<Option<(&'static str, usize)>, AllocError> {
+    if let Some(place) = first_not_read(alloc)? {
+        return Ok(Some(("texts that are read", place)));
+    }
+    if let Some(place) = first_not_refused(alloc)? {
+        return Ok(Some(("texts that are refused", place)));
+    }
+    match first_wrong_bytes(alloc) {
+        Some(place) => Ok(Some(("bytes", place))),
+        None => Ok(None),
+    }
+}
+
 #[test]
 fn metadata_is_printed_as_read_or_refused(rt: HostRuntime) -> Result<(), Fail> {
-    assert_eq!(rt; first_not_read(rt.alloc())?, None);
-    assert_eq!(rt; first_not_refused(rt.alloc())?, None);
-    assert_eq!(rt; first_wrong_bytes(rt.alloc()), None);
+    assert_eq!(rt; first_fault(rt.alloc())?, None);
     Ok(())
 }
 
@@ -442,24 +482,37 @@ fn end_with_more_braces(alloc: Global, more: usize) -> Result<&'static str, Allo
     }
 }
 
+/// Whether a text at the bound lacks its version, and one above it takes too much memory.
+fn braces_are_bounded(alloc: Global) -> Result<bool, AllocError> {
+    Ok(
+        end_with_more_braces(alloc, 999_998)? == "Missing"
+            && end_with_more_braces(alloc, 999_999)? == "Memory",
+    )
+}
+
 #[test]
 fn a_text_above_the_bound_on_braces_takes_too_much_memory(rt: HostRuntime) -> Result<(), Fail> {
-    assert_eq!(rt; end_with_more_braces(rt.alloc(), 999_998)?, "Missing");
-    assert_eq!(rt; end_with_more_braces(rt.alloc(), 999_999)?, "Memory");
+    assert!(rt; braces_are_bounded(rt.alloc())?);
     Ok(())
 }
 
-/// The text of the current schema of a table's text. `None`: the text is refused.
-fn schema_of(alloc: Global, text: &str) -> Result<Option<Vec<u8>>, AllocError> {
+/// Whether the text of the current schema is `SCHEMA`, after this part was put before the schemas.
+fn prints_schema(alloc: Global, before: &str) -> Result<bool, AllocError> {
+    let text = TABLE.replacen(alloc, "\"schemas\":[", before, 1)?;
     match read_meta(alloc, text.as_bytes()) {
-        Ok(meta) => Ok(Some(schema_text(alloc, &meta)?.into_vec())),
-        Err(_) => Ok(None),
+        Ok(meta) => Ok(schema_text(alloc, &meta)?.as_slice() == SCHEMA.as_bytes()),
+        Err(_) => Ok(false),
     }
 }
 
+/// Whether it is so alone, and behind another schema.
+fn schemas_print(alloc: Global) -> Result<bool, AllocError> {
+    let another = "\"schemas\":[{\"fields\":[],\"schema-id\":7},";
+    Ok(prints_schema(alloc, "\"schemas\":[")? && prints_schema(alloc, another)?)
+}
+
 #[test]
-fn the_schema_is_printed_as_in_the_metadata(rt: HostRuntime) -> Result<(), Fail> {
-    let schema = schema_of(rt.alloc(), TABLE)?;
-    assert!(rt; schema.is_some_and(|text| text.as_slice() == SCHEMA.as_bytes()));
+fn the_current_schema_is_printed_as_in_the_metadata(rt: HostRuntime) -> Result<(), Fail> {
+    assert!(rt; schemas_print(rt.alloc())?);
     Ok(())
 }

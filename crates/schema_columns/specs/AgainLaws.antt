@@ -1,5 +1,5 @@
 -- The object of columns is a schema with these columns.
-use Rattle.std.proofs.Common.{◌≡◌, ℕ, suc, ◌<◌, ℤ, pos, ◌^◌, int_lt, List, [], ◌∷◌, map, true, refl, arith}
+use Rattle.std.proofs.Common.{◌≡◌, suc, ℤ, pos, List, [], ◌∷◌, map, true, refl, arith}
 use Rattle.std.proofs.lemmas.Int.{ints}
 use Rattle.std.specs.Prelude.{All, ⊤, ◌≤ℤ◌}
 use Rattle.serde_json.specs.Data.{no_members}

@@ -1,5 +1,5 @@
 -- The columns that are read are the schema's, and a schema's columns are read.
-use Rattle.std.proofs.Common.{◌≡◌, ℕ, suc, ◌<◌, ℤ, pos, negsuc, ◌^◌, ◌-◌, int_lt, List, [], ◌∷◌, ◌++◌, length, Bool}
+use Rattle.std.proofs.Common.{◌≡◌, ℕ, suc, ℤ, pos, negsuc, ◌^◌, ◌-◌, int_lt, List, [], ◌∷◌, ◌++◌, Bool}
 use Rattle.std.proofs.Common.{true, false}
 use Rattle.std.proofs.Common.{◌||◌, not, Option, Some, None, is_some, option_and_then, unwrap_or, Result, Ok, Err}
 use Rattle.std.proofs.Common.{codes}
@@ -8,26 +8,23 @@ use Rattle.std.proofs.lemmas.Int.{ints}
 use Rattle.std.proofs.lemmas.Slice.Eq.{bytes_eq-Decides}
 use Rattle.std.specs.Str.{bytes_eq}
 use Rattle.std.specs.Prelude.{All, ⊤, ◌≤ℤ◌}
-use Rattle.words.specs.Reading.{◌>>=◌, map_refusal}
+use Rattle.words.specs.Reading.{map_refusal}
 use Rattle.words.specs.Steps.{bind_ok, bind_only, map_ok, ok_is}
 use Rattle.serde_json.specs.Data.{Data, null, boolean, number, string, array, object, Items, no_items, item, Members}
 use Rattle.serde_json.specs.Find.{get_member, as_array, as_bool, as_null, as_object}
-use Rattle.json_members.specs.declared.fault.Fault.{Fault}
 use Rattle.json_members.specs.declared.form.Form.{Form}
 use Rattle.json_members.specs.declared.form.Form.TheVariants.{Long, Text, Flag}
 use Rattle.json_members.specs.declared.rows.Keep.TheVariants.{InField}
 use Rattle.json_members.specs.declared.rows.Need.TheVariants.{Needed}
 use Rattle.json_members.specs.declared.rows.Version.TheVariants.{Older}
-use Rattle.json_members.specs.Form.{is_long, long_of, if_int}
+use Rattle.json_members.specs.Form.{if_int}
 use Rattle.json_members.specs.Rows.{Row, tested, AreRight, HasRight, EachIsRight, each_checked, of_version}
 use Rattle.json_members.specs.RowLaws.{each_all_right, each_without_fault, tested_right}
 use Rattle.json_members.specs.Values.{number_in, text_in}
 use Rattle.row_types.specs.declared.column.Column.{Column}
 use Rattle.row_types.specs.declared.column.Kind.{Kind}
 use Rattle.row_types.specs.declared.column.Kind.TheVariants as kinds
-use Rattle.row_types.specs.Columns.{IsColumns, columns_of, largest_id, counted, refused, first_fault, has_wrong_id}
-use Rattle.row_types.specs.Columns.{has_wrong_name}
-use Rattle.row_types.specs.declared.columns.ColumnsRefusal.TheVariants.{Id, Name}
+use Rattle.row_types.specs.Columns.{largest_id}
 use Rattle.row_types.specs.ColumnsLaws.{columns_accepted, accepted_same, accepted_columns}
 use Rattle.row_types.specs.KindWord.{kind_text}
 use Rattle.schema_columns.specs.declared.refusal.ColumnRefusal.{ColumnRefusal}
@@ -38,7 +35,7 @@ use Rattle.schema_columns.specs.Reading.{name_in, required_in, id_in, is_set, is
 use Rattle.schema_columns.specs.Reading.{kind_or_boolean}
 use Rattle.schema_columns.specs.Reading.{kind_checked, column_or_wrong, column_in, column_of, kinds_checked}
 use Rattle.schema_columns.specs.Reading.{columns_from}
-use Rattle.schema_columns.specs.Reading.{checked_columns, table_columns, columns_of_items, fields_found}
+use Rattle.schema_columns.specs.Reading.{checked_columns, table_columns, fields_found}
 use Rattle.schema_columns.specs.Reading.{columns_or_wrong}
 use Rattle.schema_columns.specs.Reading.{columns_in}
 use Rattle.schema_columns.specs.Refusal.{of_fault}
@@ -80,7 +77,8 @@ kind_again kinds.Bytes = refl
 abbrev row : List ℕ → Form → Row
 row name form = record { name = name; need = Needed; form = form; since = Older; keep = InField }
 
-text_found : (name : List ℕ) (found : Option Data) → tested (row name Text) found ≡ Ok tt
+-- the text of a member that is right
+pub text_found : (name : List ℕ) (found : Option Data) → tested (row name Text) found ≡ Ok tt
     → found ≡ Some (string (unwrap_or (text_in found) []))
 text_found name None is = absurd cc
 text_found name (Some null) is = absurd cc
@@ -158,7 +156,8 @@ column_parts ms (Some id) column is =
       ap (λ (c : Column). c.required) same,
     )
 
-abbrev passed_if : Bool → List ℕ → Result (Unit {0}) ColumnRefusal
+-- a column is refused by its name if a test fails
+abbrev pub passed_if : Bool → List ℕ → Result (Unit {0}) ColumnRefusal
 passed_if b name = if b then Ok tt else Err (ColumnType name)
 
 kind_passed : (b : Bool) (name : List ℕ) → passed_if b name ≡ Ok tt → b ≡ true
@@ -210,6 +209,17 @@ fields_are seen (item value items) all right kind is =
     let rest = fields_are (seen ++ a.0 ∷ []) items all right.1 k.2 a.2 in
     (a.0 ∷ rest.0, rest.1 ∙ append_assoc seen (a.0 ∷ []) rest.0, (object_found value a.0 right.0 k.1 a.1, rest.2))
 
+-- the items are the columns that are read from them
+pub items_found : (items : Items) (columns : List Column) → checked_columns items ≡ Ok columns
+    → AreFields items columns
+items_found items columns is =
+    let rows = bind_ok (map_refusal of_fault (each_checked (codes "fields") (of_version Older members) items)) _
+    columns is in
+    let kinds = bind_ok (kinds_checked items) _ columns rows.2 in
+    let right = each_all_right (codes "fields") (of_version Older members) items (map_ok of_fault _ tt rows.1) in
+    let each = fields_are [] items columns right kinds.1 kinds.2 in
+    subst (AreFields items) (sym each.1) each.2
+
 array_found : (found : Option Data) (items : Items) → option_and_then as_array found ≡ Some items
     → found ≡ Some (array items)
 array_found None items is = absurd cc
@@ -229,17 +239,11 @@ schema_found schema columns is = by_fields (fields_found schema) refl is
     by_fields None found is = absurd cc
     by_fields (Some items) found is =
         let p = bind_ok (checked_columns items) table_columns columns is in
-        let a = bind_ok (map_refusal of_fault (each_checked (codes "fields")
-        (of_version Older members) items)) _ p.0 p.1 in
-        let k = bind_ok (kinds_checked items) _ p.0 a.2 in
-        let each = fields_are [] items p.0 (each_all_right (codes "fields") (of_version Older members) items
-        (map_ok of_fault _ tt a.1)) k.1 k.2 in
         let accepted = map_ok (λ _. Fields) _ columns p.2 in
-        let same = sym each.1 ∙ accepted_same p.0 columns accepted in
         record {
           items = items;
           fields = array_found (get_member (codes "fields") schema) items found;
-          each = subst (AreFields items) same each.2;
+          each = subst (AreFields items) (accepted_same p.0 columns accepted) (items_found items p.0 p.1);
           right = accepted_columns p.0 columns accepted;
         }
 

@@ -3,6 +3,8 @@ pub mod Kind
 pub mod Refusal
 pub mod Reading
 pub mod Relation
+pub mod Cause
 pub mod Printing
 pub mod FoundLaws
+pub mod CauseLaws
 pub mod AgainLaws

@@ -1,9 +1,11 @@
 //! The columns of a schema.
 
-ghost use Rattle.std.specs.Prelude.{◌≡◌, [], Ok, Err, IfOk, List, option_map};
+ghost use Rattle.std.specs.Prelude.{◌≡◌, [], Ok, Err, IfErr, IfOk, List, option_map};
+ghost use Rattle.std.specs.Bool.{OnFalse};
 ghost use Rattle.serde_json.specs.View.{view, items_view, members_view};
 ghost use Rattle.words.specs.Reading.{Gives, never};
 ghost use Rattle.row_types.specs.declared.column.Column.{Column as AColumn};
+ghost use Rattle.schema_columns.specs.Cause.{IsSchemaCause};
 ghost use Rattle.schema_columns.specs.Reading as spec;
 ghost use Rattle.schema_columns.specs.Refusal.{is_memory};
 ghost use Rattle.schema_columns.specs.Relation.{IsSchema};
@@ -24,9 +26,11 @@ pub fn read_columns(alloc: Global, schema: &Members) -> Result<Columns, ColumnRe
     ensures found { IfOk result (IsSchema (members_view schema.now.entries)) }
     ensures only { (columns : List AColumn) → IsSchema (members_view schema.now.entries) columns
         → Gives is_memory (λ read. read) result (Ok columns) }
-    // Which refusal comes.
+    // Which refusal comes, and why.
     ensures exact { Gives is_memory (λ read. read) result
         (spec.columns_in (members_view schema.now.entries)) }
+    ensures cause { IfErr result (λ e.
+        OnFalse (is_memory e) (IsSchemaCause (members_view schema.now.entries) e)) }
 {
     columns_in(alloc, schema)
 }

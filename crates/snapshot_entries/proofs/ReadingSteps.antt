@@ -1,6 +1,8 @@
 -- Steps of reading a list of snapshots.
 use Rattle.std.proofs.Common.{◌≡◌, ℕ, ℤ, List, [], ◌∷◌, ◌++◌, Result, Ok, Err, sym, ap, subst, ◌∙◌}
-use Rattle.std.specs.Prelude.{IfOk}
+use Rattle.std.specs.Bool.{OnFalse}
+use Rattle.std.specs.Prelude.{IfErr, IfOk}
+use Rattle.std.proofs.lemmas.Bool.{OnFalse_at, OnFalse_from}
 use Rattle.words.specs.Reading.{◌>>=◌, Gives}
 use Rattle.serde_json.specs.Data.{Items, Members}
 use Rattle.serde_json.specs.Find.{get_member}
@@ -10,6 +12,8 @@ use Rattle.json_members.specs.declared.rows.Version.{Version}
 use Rattle.json_members.specs.Plain.{ItemsArePlain}
 use Rattle.snapshot_entries.specs.declared.snapshot.Snapshot.{Snapshot}
 use Rattle.snapshot_entries.specs.declared.refusal.SnapshotRefusal.{SnapshotRefusal}
+use Rattle.snapshot_entries.specs.Cause.{IsListCause}
+use Rattle.snapshot_entries.specs.CauseLaws.{list_refused}
 use Rattle.snapshot_entries.specs.FoundLaws.{snapshots_found, snapshots_only}
 use Rattle.snapshot_entries.specs.KeptLaws.{kept}
 use Rattle.snapshot_entries.specs.List.{limits_checked}
@@ -80,6 +84,14 @@ pub only_so : (version : Version) (last : ℤ) (items : Items) (result : Result 
     → AreSnapshotsOf version last items snapshots → Gives is_memory (λ read. read) result (Ok snapshots)
 only_so version last items result given snapshots are =
     subst (Gives is_memory (λ read. read) result) (snapshots_only version last items snapshots are) given
+
+-- the list has the cause of its refusal
+pub cause_so : (version : Version) (last : ℤ) (items : Items) (result : Result (List Snapshot) SnapshotRefusal)
+    → Gives is_memory (λ read. read) result (snapshots_in version last items)
+    → IfErr result (λ e. OnFalse (is_memory e) (IsListCause version last items e))
+cause_so version last items (Ok snapshots) given = tt
+cause_so version last items (Err e) given =
+    OnFalse_from (is_memory e) _ (λ other. list_refused version last items e (OnFalse_at other given))
 
 -- they have objects that are read as them
 pub kept_so : (version : Version) (last : ℤ) (items : Items) (result : Result (List Snapshot) SnapshotRefusal)

@@ -6,6 +6,7 @@ pub mod List
 pub mod Ids
 pub mod Reading
 pub mod Relation
+pub mod Cause
 pub mod Snapshot
 pub mod Printing
 pub mod Keys
@@ -13,6 +14,8 @@ pub mod ListLaws
 pub mod EntryLaws
 pub mod RowLaws
 pub mod FoundLaws
+pub mod RefusedLaws
+pub mod CauseLaws
 pub mod AgainLaws
 pub mod KeptLaws
 pub mod PlainLaws

@@ -1,11 +1,13 @@
 //! The snapshots of a list of JSON values.
 
-ghost use Rattle.std.specs.Prelude.{◌≡◌, [], Ok, IfOk, List};
+ghost use Rattle.std.specs.Prelude.{◌≡◌, [], Ok, IfErr, IfOk, List};
+ghost use Rattle.std.specs.Bool.{OnFalse};
 ghost use Rattle.serde_json.specs.Find.{get_member};
 ghost use Rattle.serde_json.specs.View.{view, items_view, members_view};
 ghost use Rattle.json_members.specs.Plain.{ItemsArePlain};
 ghost use Rattle.words.specs.Reading.{Gives};
 ghost use Rattle.snapshot_entries.specs.declared.snapshot.Snapshot.{Snapshot as ASnapshot};
+ghost use Rattle.snapshot_entries.specs.Cause.{IsListCause};
 ghost use Rattle.snapshot_entries.specs.Reading as spec;
 ghost use Rattle.snapshot_entries.specs.Refusal.{is_memory};
 ghost use Rattle.snapshot_entries.specs.Relation.{AreSnapshotsOf};
@@ -39,9 +41,11 @@ pub fn read_snapshots(
     ensures only { (snapshots : List ASnapshot)
         → AreSnapshotsOf version last (items_view items.items) snapshots
         → Gives is_memory (λ read. read) result (Ok snapshots) }
-    // Which refusal comes.
+    // Which refusal comes, and why.
     ensures exact { Gives is_memory (λ read. read) result
         (spec.snapshots_in version last (items_view items.items)) }
+    ensures cause { IfErr result (λ e.
+        OnFalse (is_memory e) (IsListCause version last (items_view items.items) e)) }
     // Each has an object that is read as it.
     ensures kept { ItemsArePlain 125 (items_view items.items)
         → IfOk result (AreSnapshots version last) }

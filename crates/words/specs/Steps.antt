@@ -11,6 +11,14 @@ read_as x = Ok x
 pub ok_is : {A E : Type 0} (x y : A) → read_as {E = E} x ≡ read_as y → x ≡ y
 ok_is x y e = cc
 
+-- it is refused
+abbrev pub refused_as : {A E : Type 0} → E → Result A E
+refused_as e = Err e
+
+-- the refusal of what is refused
+pub err_is : {A E : Type 0} (d e : E) → refused_as {A = A} d ≡ refused_as e → d ≡ e
+err_is d e is = cc
+
 -- ---- one reader after another
 
 -- what both steps read
@@ -25,6 +33,12 @@ pub bind_then : {A B E P : Type 0} (r : Result A E) (f : A → Result B E) (y : 
 bind_then (Ok x) f y e go = go x refl e
 bind_then (Err d) f y e go = absurd cc
 
+-- what follows if either step refused follows if the whole did
+pub bind_refused : {A B E P : Type 0} (r : Result A E) (f : A → Result B E) (e : E) → (r >>= f) ≡ Err e
+    → (r ≡ Err e → P) → ((x : A) → r ≡ Ok x → f x ≡ Err e → P) → P
+bind_refused (Ok x) f e is first next = next x refl is
+bind_refused (Err d) f e is first next = first cc
+
 -- a step that read, and what the next one returns
 pub bind_only : {A B E : Type 0} (r : Result A E) (f : A → Result B E) (x : A) (y : Result B E)
     → r ≡ Ok x → f x ≡ y → (r >>= f) ≡ y
@@ -36,6 +50,12 @@ bind_only r f x y is rest = ap (λ s. s >>= f) is ∙ rest
 pub map_ok : {A E F : Type 0} (f : E → F) (r : Result A E) (x : A) → map_refusal f r ≡ Ok x → r ≡ Ok x
 map_ok f (Ok y) x e = cc
 map_ok f (Err d) x e = absurd cc
+
+-- what a refusal was before it got another name
+pub map_refused : {A E F : Type 0} (f : E → F) (r : Result A E) (e : F)
+    → map_refusal f r ≡ Err e → (d : E) × (r ≡ Err d) × (f d ≡ e)
+map_refused f (Ok y) e is = absurd cc
+map_refused f (Err d) e is = (d, refl, cc)
 
 -- what is seen is the view of what is read
 pub value_ok : {A B E : Type 0} (view : A → B) (r : Result A E) (y : B)

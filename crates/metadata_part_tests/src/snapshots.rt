@@ -257,16 +257,18 @@ fn first_wrong_limit(alloc: Global) -> Result<Option<usize>, AllocError> {
 /// there.
 static IDS: [(i64, bool); 4] = [(3, true), (-5, true), (0, false), (4, false)];
 
-/// The first id that is found, or isn't, against its row. `None`: there is none.
-fn first_wrong_id(alloc: Global) -> Result<Option<i64>, AllocError> {
+/// The place of the first id that is found, or isn't, against its row, counted from 0. `None`: there
+/// is none.
+fn first_wrong_id(alloc: Global) -> Result<Option<usize>, AllocError> {
     let text =
         r#"[{"snapshot-id":"4"},{"snapshot-id":9223372036854775808},{"snapshot-id":-5},{"snapshot-id":3}]"#;
     let Some(Value::Array(items)) = parse(alloc, text.as_bytes())? else {
         return Ok(Some(0));
     };
-    for (id, is_there) in IDS {
+    for place in 0..IDS.len() {
+        let (id, is_there) = IDS[place];
         if has_snapshot(&items, id) != is_there {
-            return Ok(Some(id));
+            return Ok(Some(place));
         }
     }
     Ok(None)
@@ -275,21 +277,76 @@ fn first_wrong_id(alloc: Global) -> Result<Option<i64>, AllocError> {
 /// Operations that a summary names.
 static OPERATIONS: [&str; 2] = ["", "append"];
 
-/// The first operation that isn't found in its own summary. `None`: there is none.
-fn first_wrong_summary(alloc: Global) -> Result<Option<&'static str>, AllocError> {
-    for operation in OPERATIONS {
-        if Tree::with_operation(alloc, operation)?.operation() != Some(operation) {
-            return Ok(Some(operation));
+/// Members of a snapshot, and the operation that their summary names. An empty one: it names none.
+static SUMMARIES: [(&str, &str); 6] = [
+    ("{}", ""),
+    ("{\"operation\":\"x\"}", ""),
+    ("{\"summary\":5}", ""),
+    ("{\"summary\":{}}", ""),
+    ("{\"summary\":{\"operation\":5}}", ""),
+    ("{\"summary\":{\"a\":1,\"operation\":\"b\"}}", "b"),
+];
+
+/// Whether these members name this operation.
+fn names_so(alloc: Global, case: &(&str, &str)) -> Result<bool, AllocError> {
+    let (text, operation) = *case;
+    let Some(Value::Object(members)) = parse(alloc, text.as_bytes())? else {
+        return Ok(false);
+    };
+    let tree = Tree::from_members(members);
+    let named = if operation == "" {
+        None
+    } else {
+        Some(operation)
+    };
+    Ok(tree.operation() == named)
+}
+
+/// The place of the first members that name another operation, counted from 0. `None`: there are
+/// none.
+fn first_wrong_name(alloc: Global) -> Result<Option<usize>, AllocError> {
+    for place in 0..SUMMARIES.len() {
+        if !names_so(alloc, &SUMMARIES[place])? {
+            return Ok(Some(place));
         }
     }
     Ok(None)
 }
 
+/// The place of the first operation that isn't found in its own summary, counted from 0. `None`:
+/// there is none.
+fn first_wrong_summary(alloc: Global) -> Result<Option<usize>, AllocError> {
+    for place in 0..OPERATIONS.len() {
+        let operation = OPERATIONS[place];
+        if Tree::with_operation(alloc, operation)?.operation() != Some(operation) {
+            return Ok(Some(place));
+        }
+    }
+    Ok(None)
+}
+
+/// The first table of this file with a wrong row, and the row's place. `None`: there is none.
+fn first_fault(alloc: Global) -> Result<Option<(&'static str, usize)>, AllocError> {
+    if let Some(place) = first_wrong(alloc)? {
+        return Ok(Some(("lists", place)));
+    }
+    if let Some(place) = first_wrong_limit(alloc)? {
+        return Ok(Some(("limits", place)));
+    }
+    if let Some(place) = first_wrong_id(alloc)? {
+        return Ok(Some(("ids", place)));
+    }
+    if let Some(place) = first_wrong_summary(alloc)? {
+        return Ok(Some(("operations", place)));
+    }
+    match first_wrong_name(alloc)? {
+        Some(place) => Ok(Some(("summaries", place))),
+        None => Ok(None),
+    }
+}
+
 #[test]
 fn snapshots_are_printed_as_read_or_refused(rt: HostRuntime) -> Result<(), Fail> {
-    assert_eq!(rt; first_wrong(rt.alloc())?, None);
-    assert_eq!(rt; first_wrong_limit(rt.alloc())?, None);
-    assert_eq!(rt; first_wrong_id(rt.alloc())?, None);
-    assert_eq!(rt; first_wrong_summary(rt.alloc())?, None);
+    assert_eq!(rt; first_fault(rt.alloc())?, None);
     Ok(())
 }
