@@ -37,15 +37,9 @@ changed_rest rest path old id time = with_fields (changed_fields rest path old i
 
 -- the metadata after a commit with a snapshot; `path`: the file of the old metadata
 abbrev pub with_snapshot : TableMeta → List ℕ → Snapshot → Option ℤ → TableMeta
-with_snapshot m path s next = record {
-  version = m.version;
-  uuid = m.uuid;
-  location = m.location;
+with_snapshot m path s next = record m {
   last_sequence = s.sequence;
   last_updated = s.time;
-  columns = m.columns;
-  schema_id = m.schema_id;
-  spec_id = m.spec_id;
   next_row_id = next;
   current = Some s.id;
   snapshots = m.snapshots ++ s ∷ [];

@@ -1,5 +1,5 @@
 -- The metadata of a new table.
-use Rattle.std.specs.Prelude.{ℕ, ℤ, pos, int_lt, List, [], ◌∷◌, Option, Some, None, codes, if◌then◌else◌}
+use Rattle.std.specs.Prelude.{ℕ, ℤ, pos, List, [], ◌∷◌, Option, Some, None, codes}
 use Rattle.serde_json.specs.Data.{array, object, no_items, item, Members, no_members}
 use Rattle.json_members.specs.declared.rows.Version.{Version}
 use Rattle.json_members.specs.declared.rows.Version.TheVariants.{Older, Newer}
@@ -9,10 +9,7 @@ use Rattle.row_types.specs.declared.column.Column.{Column}
 use Rattle.schema_columns.specs.Printing.{schema_of}
 use Rattle.metadata_reading.specs.declared.meta.TableMeta.{TableMeta}
 use Rattle.metadata_reading.specs.Version.{format}
-
--- the larger number
-abbrev pub larger : ℤ → ℤ → ℤ
-larger a b = if int_lt a b then b else a
+use Rattle.metadata_changes.specs.Numbers.{larger}
 
 -- the greatest of a number and the ids of columns
 abbrev pub greatest : ℤ → List Column → ℤ

@@ -1,7 +1,7 @@
 -- The metadata of a new table is a table's.
-use Rattle.std.proofs.Common.{◌≡◌, ℕ, suc, ℤ, pos, int_lt, List, [], ◌∷◌, map, Bool, true, false, codes, refl, arith}
+use Rattle.std.proofs.Common.{◌≡◌, inl, ℕ, suc, ℤ, pos, List, [], ◌∷◌, map, Bool, true, codes, refl, arith}
 use Rattle.std.proofs.lemmas.Int.{ints}
-use Rattle.std.specs.Prelude.{All, ◌≤ℤ◌, if◌then◌else◌}
+use Rattle.std.specs.Prelude.{All, ◌≤ℤ◌}
 use Rattle.serde_json.specs.Data.{Data, array, object, boolean, no_items, item, no_members}
 use Rattle.serde_json.specs.Find.{get_member}
 use Rattle.serde_json.specs.View.{items_of}
@@ -22,25 +22,23 @@ use Rattle.metadata_reading.specs.Members.{known}
 use Rattle.metadata_reading.specs.Relation.{AreCarried}
 use Rattle.metadata_reading.specs.Table.{IsTable, IsNext}
 use Rattle.metadata_reading.specs.Version.{IsVersion, format}
-use Rattle.metadata_changes.specs.Fresh.{larger, greatest, empty_fields, empty_of, fresh_fields, first_next, fresh}
+use Rattle.metadata_changes.specs.Fresh.{greatest, empty_fields, empty_of, fresh_fields, first_next, fresh}
+use Rattle.metadata_changes.specs.NumberLaws.{larger_long}
+use Rattle.metadata_changes.specs.Numbers.{larger}
 
 -- ---- the greatest id
 
-larger_long : (a b : ℤ) → is_long a ≡ true → b ≤ℤ pos largest_id → is_long (larger a b) ≡ true
-larger_long a b long most = by_test (int_lt a b)
-  where
-    fits : b ≤ℤ pos 2147483447 → is_long b ≡ true
-    fits most = grind (arith, ints)
+-- an id of a column has 64 bits
+id_long : (id : ℤ) → id ≤ℤ pos 2147483447 → is_long id ≡ true
+id_long id most = grind (arith, ints)
 
-    by_test : (less : Bool) → is_long (if less then b else a) ≡ true
-    by_test true = fits most
-    by_test false = long
-
+-- so has the greatest of them
 greatest_long : (most : ℤ) (columns : List Column) → is_long most ≡ true
     → All (λ (c : Column). (pos 1 ≤ℤ c.id) × (c.id ≤ℤ pos largest_id)) columns → is_long (greatest most columns) ≡ true
 greatest_long most [] long all = long
 greatest_long most (column ∷ columns) long all =
-    greatest_long (larger most column.id) columns (larger_long most column.id long (all 0 column (omega arith)).1)
+    greatest_long (larger most column.id) columns
+    (larger_long most column.id long (id_long column.id (all 0 column (omega arith)).1))
     (λ i d lt. all (suc i) d (omega (arith, lt)))
 
 -- ---- floats and depth
@@ -131,7 +129,7 @@ carried_fresh columns right = record {
     is_list = refl;
     each = ((pos 0, refl), tt);
     schema = schema_of columns;
-    current = refl;
+    current = inl (refl, refl);
     is_schema = schema_again columns right;
   };
   specs = (item (object (empty_of (codes "spec-id"))) no_items, refl, (((pos 0, refl), refl), tt));

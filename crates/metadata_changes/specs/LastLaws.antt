@@ -74,7 +74,8 @@ negated true is = absurd cc
 negated false is = refl
 
 -- ids stay apart if a new one is put last
-pub apart_with : (all : List ℤ) (id : ℤ) → are_apart all ≡ true → has_id all id ≡ false → are_apart (all ++ id ∷ []) ≡ true
+pub apart_with : (all : List ℤ) (id : ℤ) → are_apart all ≡ true → has_id all id ≡ false
+    → are_apart (all ++ id ∷ []) ≡ true
 apart_with [] id apart new = refl
 apart_with (first ∷ all) id apart new =
     let p = both (not (has_id all first)) (are_apart all) apart in

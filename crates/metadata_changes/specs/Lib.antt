@@ -1,8 +1,12 @@
+pub mod Numbers
 pub mod Logs
 pub mod Fresh
 pub mod Commit
 pub mod MayCome
+pub mod Others
+pub mod LastColumn
 pub mod Upgrade
+pub mod NumberLaws
 pub mod LogLaws
 pub mod CarriedLaws
 pub mod LastLaws
@@ -10,3 +14,6 @@ pub mod CommitLaws
 pub mod NameLaws
 pub mod UpgradeLaws
 pub mod FreshLaws
+pub mod OthersLaws
+pub mod LastColumnLaws
+pub mod OperationLaws

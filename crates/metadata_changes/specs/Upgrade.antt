@@ -7,6 +7,7 @@ use Rattle.json_members.specs.Members.{Field, with_fields, without}
 use Rattle.snapshot_entries.specs.declared.snapshot.Snapshot.{Snapshot}
 use Rattle.metadata_reading.specs.declared.meta.TableMeta.{TableMeta}
 use Rattle.metadata_changes.specs.Logs.{with_last, metadata_entry}
+use Rattle.metadata_changes.specs.Numbers.{larger}
 
 -- the names of the members of a snapshot that only version 3 has
 abbrev pub new_in_snapshots : List (List ℕ)
@@ -14,17 +15,7 @@ new_in_snapshots = codes "first-row-id" ∷ codes "added-rows" ∷ []
 
 -- the snapshot without what it carries at these names
 abbrev pub upgraded_snapshot : Snapshot → Snapshot
-upgraded_snapshot s = record {
-  id = s.id;
-  parent = s.parent;
-  sequence = s.sequence;
-  time = s.time;
-  list = s.list;
-  schema_id = s.schema_id;
-  first_row_id = s.first_row_id;
-  added_rows = s.added_rows;
-  rest = without new_in_snapshots s.rest;
-}
+upgraded_snapshot s = record s { rest = without new_in_snapshots s.rest }
 
 -- the carried members after the upgrade; `old`: when the old metadata was made, `path`: its file
 abbrev pub upgraded_fields : Members → List ℕ → ℤ → List Field
@@ -40,17 +31,10 @@ upgraded_rest rest path old =
 
 -- the metadata after an upgrade to version 3 at a moment; `path`: the file of the old metadata
 abbrev pub upgraded : TableMeta → List ℕ → ℤ → TableMeta
-upgraded m path now = record {
+upgraded m path now = record m {
   version = 3;
-  uuid = m.uuid;
-  location = m.location;
-  last_sequence = m.last_sequence;
-  last_updated = now;
-  columns = m.columns;
-  schema_id = m.schema_id;
-  spec_id = m.spec_id;
+  last_updated = larger m.last_updated now;
   next_row_id = Some (pos 0);
-  current = m.current;
   snapshots = map upgraded_snapshot m.snapshots;
   rest = upgraded_rest m.rest path m.last_updated;
 }

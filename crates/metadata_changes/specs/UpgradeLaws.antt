@@ -22,6 +22,7 @@ use Rattle.metadata_reading.specs.Relation.{ids, AreCarried}
 use Rattle.metadata_reading.specs.Table.{IsTable, IsAmong}
 use Rattle.metadata_reading.specs.Version.{format}
 use Rattle.metadata_changes.specs.Logs.{metadata_entry}
+use Rattle.metadata_changes.specs.NumberLaws.{larger_long}
 use Rattle.metadata_changes.specs.Commit.{log_with}
 use Rattle.metadata_changes.specs.Upgrade.{new_in_snapshots, upgraded_snapshot, upgraded_fields, upgraded_rest}
 use Rattle.metadata_changes.specs.Upgrade.{upgraded}
@@ -117,7 +118,7 @@ pub table_still : (m : TableMeta) (path : List ℕ) (now : ℤ) → is_long now 
 table_still m path now long h two = record {
   version = inr refl;
   last_sequence = h.last_sequence;
-  last_updated = long;
+  last_updated = larger_long m.last_updated now h.last_updated long;
   schema_id = h.schema_id;
   spec_id = h.spec_id;
   next_row_id = record { fits = refl; least = refl };

@@ -1,11 +1,12 @@
 //! The metadata after a commit with a snapshot.
 
-ghost use Rattle.std.specs.Prelude.{◌≡◌, IfOk, OnOk};
+ghost use Rattle.std.specs.Prelude.{◌≡◌, [], ◌∷◌, codes, IfOk, OnOk};
 ghost use Rattle.serde_json.specs.View.{items_view, members_view};
 ghost use Rattle.json_members.specs.Members.{with_fields};
 ghost use Rattle.metadata_reading.specs.Table.{IsTable};
 ghost use Rattle.metadata_changes.specs.Commit as spec;
 ghost use Rattle.metadata_changes.specs.MayCome.{MayCome};
+ghost use Rattle.metadata_changes.specs.Others.{KeepsOthers, KeepsIn};
 
 use crate::logs::{metadata_entry, snapshot_entry, take_members, with_last, with_main};
 use avro_wire::Text;
@@ -29,6 +30,15 @@ pub fn with_snapshot(
     ensures changed { IfOk result
         (λ after. after ≡ spec.with_snapshot meta.now path.now snapshot next_row_id) }
     ensures table { IsTable meta.now → MayCome meta.now snapshot next_row_id → IfOk result IsTable }
+    // What is carried stays, except that two logs have one entry more, and `main` moves.
+    ensures others { IfOk result (λ after. KeepsOthers
+        (codes "snapshot-log" ∷ codes "metadata-log" ∷ codes "refs" ∷ [])
+        meta.now.rest after.rest) }
+    ensures refs { IfOk result (λ after. KeepsIn (codes "refs")
+        (KeepsOthers (codes "main" ∷ [])) meta.now.rest after.rest) }
+    ensures main { IfOk result (λ after. KeepsIn (codes "refs")
+        (KeepsIn (codes "main") (KeepsOthers (codes "snapshot-id" ∷ [])))
+        meta.now.rest after.rest) }
 {
     let after = changed(alloc, meta, path, snapshot, next_row_id)?;
     Ok(after)

@@ -2,6 +2,7 @@
 //!
 //! | Module | What it has |
 //! |---|---|
+//! | `numbers` | the larger of two numbers |
 //! | `logs` | the carried members that a change touches |
 //! | `new_table` | the metadata of a new table |
 //! | `commit` | the metadata after a commit with a snapshot |
@@ -11,6 +12,7 @@
 mod commit;
 mod logs;
 mod new_table;
+mod numbers;
 mod upgrade;
 
 pub use commit::with_snapshot;

@@ -1,15 +1,18 @@
 //! The metadata of a new table.
 
-ghost use Rattle.std.specs.Prelude.{◌≡◌, ◌⊎◌, IfOk, OnOk, pos};
+ghost use Rattle.std.specs.Prelude.{◌≡◌, ◌⊎◌, codes, IfOk, OnOk, pos};
 ghost use Rattle.serde_json.specs.Data.{put as with_member, array, object, no_items};
 ghost use Rattle.serde_json.specs.Data.{item, no_members};
+ghost use Rattle.serde_json.specs.Find.{get_member};
 ghost use Rattle.serde_json.specs.View.{members_view};
 ghost use Rattle.json_members.specs.Members.{with_fields};
 ghost use Rattle.row_types.specs.Columns.{IsColumns};
 ghost use Rattle.metadata_reading.specs.Table.{IsTable};
 ghost use Rattle.metadata_reading.specs.Version.{format};
 ghost use Rattle.metadata_changes.specs.Fresh as spec;
+ghost use Rattle.metadata_changes.specs.LastColumn.{IsLastColumnId};
 
+use crate::numbers::larger;
 use avro_wire::Text;
 use json_members::{Members, put};
 use lists::{Copied, List};
@@ -35,6 +38,8 @@ pub fn fresh(
     ensures value { IfOk result
         (λ meta. meta ≡ spec.fresh uuid version location.now columns.now now) }
     ensures table { IfOk result IsTable }
+    ensures last_column_id { IfOk result
+        (λ meta. IsLastColumnId columns.now (get_member (codes "last-column-id") meta.rest)) }
 {
     let meta = meta_of(alloc, uuid, version, location, columns, now)?;
     Ok(meta)
@@ -181,10 +186,4 @@ fn greatest(columns: &[Column]) -> i64
         most = larger(most, i64::from(column.id));
     }
     most
-}
-
-fn larger(a: i64, b: i64) -> i64
-    ensures { result ≡ spec.larger a b }
-{
-    if a < b { b } else { a }
 }

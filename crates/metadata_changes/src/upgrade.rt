@@ -1,11 +1,13 @@
 //! The metadata after an upgrade to version 3.
 
-ghost use Rattle.std.specs.Prelude.{◌≡◌, map, IfOk};
+ghost use Rattle.std.specs.Prelude.{◌≡◌, ◌≤ℤ◌, [], ◌∷◌, map, codes, IfOk};
 ghost use Rattle.json_members.specs.Members.{without};
 ghost use Rattle.metadata_reading.specs.Table.{IsTable};
+ghost use Rattle.metadata_changes.specs.Others.{KeepsOthers, SnapshotsKeepOthers};
 ghost use Rattle.metadata_changes.specs.Upgrade as spec;
 
 use crate::logs::{metadata_entry, with_last};
+use crate::numbers::larger;
 use avro_wire::Text;
 use json_members::{put, take, take_items};
 use lists::{Copied, List};
@@ -15,7 +17,8 @@ use snapshot_entries::{Snapshot, Snapshots, Tree};
 use std::alloc::{AllocError, Global};
 
 /// The metadata after an upgrade to version 3 at the moment `now`, in milliseconds from 1970-01-01
-/// 00:00:00 UTC. `path`: the path of the old metadata's file. An `Err` says that memory ran out.
+/// 00:00:00 UTC. It was last updated at `now`, or when the old metadata was, if that is later.
+/// `path`: the path of the old metadata's file. An `Err` says that memory ran out.
 /// Iceberg spec, "Row Lineage for Upgraded Tables".
 pub fn upgraded(
     alloc: Global,
@@ -25,6 +28,14 @@ pub fn upgraded(
 ) -> Result<TableMeta, AllocError>
     ensures changed { IfOk result (λ after. after ≡ spec.upgraded meta.now path.now now) }
     ensures table { IsTable meta.now → meta.now.version ≡ 2 → IfOk result IsTable }
+    // The moment isn't before the old one, nor before `now`.
+    ensures not_before { IfOk result (λ after. meta.now.last_updated ≤ℤ after.last_updated) }
+    ensures reached { IfOk result (λ after. now ≤ℤ after.last_updated) }
+    // What is carried stays, except the log of metadata files and what version 3 has in fields.
+    ensures others { IfOk result (λ after. KeepsOthers
+        (codes "metadata-log" ∷ codes "next-row-id" ∷ []) meta.now.rest after.rest) }
+    ensures snapshots { IfOk result (λ after. SnapshotsKeepOthers
+        (codes "first-row-id" ∷ codes "added-rows" ∷ []) meta.now.snapshots after.snapshots) }
 {
     let after = changed(alloc, meta, path, now)?;
     Ok(after)
@@ -42,7 +53,7 @@ fn changed(alloc: Global, meta: &TableMeta, path: &Text, now: i64) -> Result<Tab
         uuid: meta.uuid,
         location,
         last_sequence: meta.last_sequence,
-        last_updated: now,
+        last_updated: larger(meta.last_updated, now),
         columns,
         schema_id: meta.schema_id,
         spec_id: meta.spec_id,

@@ -17,7 +17,7 @@ use Rattle.json_members.specs.Cause.{AnyHasFault}
 use Rattle.json_members.specs.Form.{items_in}
 use Rattle.json_members.specs.Parsing.{value_of}
 use Rattle.json_members.specs.Rows.{Lookup, of_version}
-use Rattle.json_members.specs.Values.{number_in, number_or_0}
+use Rattle.json_members.specs.Values.{number_in, natural_in}
 use Rattle.snapshot_entries.specs.declared.refusal.SnapshotRefusal.{SnapshotRefusal}
 use Rattle.snapshot_entries.specs.declared.refusal.SnapshotRefusal.TheVariants as snapshots
 use Rattle.snapshot_entries.specs.declared.snapshot.Snapshot.{Snapshot}
@@ -34,7 +34,8 @@ use Rattle.metadata_reading.specs.declared.refusal.MetaRefusal.TheVariants.{Encr
 use Rattle.metadata_reading.specs.declared.refusal.MetaRefusal.TheVariants.{NoManifestList, Limit, Memory}
 use Rattle.metadata_reading.specs.Members.{members}
 use Rattle.metadata_reading.specs.Reading.{current_in}
-use Rattle.metadata_reading.specs.Schemas.{are_schemas, schema_of, are_specs, are_none, are_unpartitioned}
+use Rattle.metadata_reading.specs.CurrentSchema.{IsCurrentSchema, HasNoSchema}
+use Rattle.metadata_reading.specs.Schemas.{are_schemas, are_specs, are_none, are_unpartitioned}
 
 -- ---- what is found
 
@@ -50,13 +51,9 @@ is_3 (Some n) = int_eq n (pos 3)
 abbrev pub format_in : Lookup → Format
 format_in found = if is_3 (number_in (found (codes "format-version"))) then Newer else Older
 
--- the last sequence number
-abbrev pub last_number : Lookup → ℤ
-last_number found = number_or_0 (found (codes "last-sequence-number"))
-
--- the current schema
-abbrev pub current_schema : Lookup → Option Members
-current_schema found = schema_of (number_or_0 (found (codes "current-schema-id"))) (list_at (codes "schemas") found)
+-- this is the last sequence number
+abbrev pub IsLast : Lookup → ℤ → Type 0
+IsLast found last = natural_in (found (codes "last-sequence-number")) ≡ Some last
 
 -- ---- causes, by what is found at each name
 
@@ -64,14 +61,15 @@ current_schema found = schema_of (number_or_0 (found (codes "current-schema-id")
 abbrev pub MembersHave : Lookup → Fault → Type 0
 MembersHave found f = AnyHasFault found (of_version (format_in found) members) f
 
--- the list of snapshots has this refusal
+-- the list of snapshots has this refusal, with the last sequence number that is found
 abbrev pub SnapshotsHave : Lookup → SnapshotRefusal → Type 0
 SnapshotsHave found refusal =
-    IsListCause (format_in found) (last_number found) (list_at (codes "snapshots") found) refusal
+    (last : ℤ) × IsLast found last
+    × IsListCause (format_in found) last (list_at (codes "snapshots") found) refusal
 
 -- the current schema has this refusal
 abbrev pub ColumnsHave : Lookup → ColumnRefusal → Type 0
-ColumnsHave found refusal = (schema : Members) × (current_schema found ≡ Some schema) × IsSchemaCause schema refusal
+ColumnsHave found refusal = (schema : Members) × IsCurrentSchema found schema × IsSchemaCause schema refusal
 
 -- a text is found, and it is no id
 abbrev pub IsNoUuid : Option Data → Type 0
@@ -88,7 +86,7 @@ abbrev pub BreaksRule : Lookup → List ℕ → Type 0
 BreaksRule found name =
     (name ≡ codes "table-uuid") × IsNoUuid (found (codes "table-uuid"))
     ⊎ ((name ≡ codes "schemas") × (are_schemas (list_at (codes "schemas") found) ≡ false)
-    ⊎ ((name ≡ codes "current-schema-id") × (current_schema found ≡ None)
+    ⊎ ((name ≡ codes "current-schema-id") × HasNoSchema found
     ⊎ ((name ≡ codes "fields") × ColumnsHave found columns.Fields
     ⊎ ((name ≡ codes "partition-specs") × (are_specs (list_at (codes "partition-specs") found) ≡ false)
     ⊎ ((name ≡ codes "snapshots") × (are_distinct (list_at (codes "snapshots") found) ≡ false)
@@ -102,8 +100,10 @@ pub record IsOtherVersion (found : Lookup) (n : ℤ) : Type 0 where
 
 -- a snapshot has an encryption key
 pub record SnapshotsHaveKey (found : Lookup) : Type 0 where
+  pub last : ℤ
+  pub is_last : IsLast found last
   pub all : List Snapshot
-  pub here : AreSnapshotsOf (format_in found) (last_number found) (list_at (codes "snapshots") found) all
+  pub here : AreSnapshotsOf (format_in found) last (list_at (codes "snapshots") found) all
   pub key : has_keys all ≡ true
 
 -- the table or a snapshot has an encryption key

@@ -15,6 +15,7 @@ use Rattle.metadata_reading.specs.declared.refusal.MetaRefusal.TheVariants.{Vers
 use Rattle.metadata_reading.specs.declared.refusal.MetaRefusal.TheVariants.{Encrypted, Partitioned, ColumnType}
 use Rattle.metadata_reading.specs.declared.refusal.MetaRefusal.TheVariants.{NoManifestList, Limit, Memory}
 use Rattle.metadata_reading.specs.Cause.{format_in, IsRefused, ObjectIsRefused, IsMetaCause}
+use Rattle.metadata_reading.specs.CheckLaws.{Checked}
 use Rattle.metadata_reading.specs.Members.{known}
 use Rattle.metadata_reading.specs.PartLaws.{head_found}
 use Rattle.metadata_reading.specs.Reading.{head_by, parts_by, meta_by, object_or_wrong}
@@ -38,6 +39,7 @@ members_refused found left refusal is =
     bind_refused (head_by found) _ refusal is (head_cause found refusal)
     (λ head read next. bind_refused (parts_by (format head.0) found) _ refusal next
     (λ here. parts_cause found refusal
+    (subst (λ (v : Version). Checked v found) (head_format found head read) (head_found found head read).checked)
     (subst (λ (v : Version). parts_by v found ≡ Err refusal) (head_format found head read) here))
     (λ parts _ never. absurd cc))
 

@@ -15,13 +15,16 @@ use Rattle.snapshot_entries.specs.declared.refusal.SnapshotRefusal.TheVariants a
 use Rattle.snapshot_entries.specs.List.{are_distinct, ids_checked, has_snapshot}
 use Rattle.metadata_reading.specs.declared.refusal.MetaRefusal.{MetaRefusal}
 use Rattle.metadata_reading.specs.declared.refusal.MetaRefusal.TheVariants.{Wrong}
-use Rattle.metadata_reading.specs.Cause.{format_in, list_at, current_schema}
+use Rattle.metadata_reading.specs.Cause.{format_in, list_at}
 use Rattle.metadata_reading.specs.Cause.{IsNotThere, IsRefused}
 use Rattle.metadata_reading.specs.CheckLaws.{in_both, rows_right}
+use Rattle.metadata_reading.specs.CurrentSchema.{IsSchemaId}
+use Rattle.metadata_reading.specs.FirstLaws.{none_has}
+use Rattle.metadata_reading.specs.NumberLaws.{schema_id_found}
 use Rattle.metadata_reading.specs.Reading.{rows_checked, current_in, current_checked, schemas_by, snapshots_by}
 use Rattle.metadata_reading.specs.Reading.{members_by, uuid_by, head_by}
 use Rattle.metadata_reading.specs.Refusal.{of_snapshots}
-use Rattle.metadata_reading.specs.Schemas.{are_schemas, schemas_checked, current_schema_checked}
+use Rattle.metadata_reading.specs.Schemas.{are_schemas, schemas_checked, schema_of, current_schema_checked}
 use Rattle.metadata_reading.specs.Schemas.{are_specs, specs_checked}
 use Rattle.metadata_reading.specs.StepCauses.{failed, rule, rows_cause, version_cause}
 use Rattle.metadata_reading.specs.StepCauses.{format_found}
@@ -52,13 +55,14 @@ none_is : (o : Option Members) → is_some o ≡ false → o ≡ None
 none_is None is = refl
 none_is (Some ms) is = absurd cc
 
-current_schema_failed : (found : Lookup) (refusal : MetaRefusal)
-    → current_schema_checked (number_or_0 (found (codes "current-schema-id"))) (list_at (codes "schemas") found)
-    ≡ Err refusal
-    → IsRefused found refusal
-current_schema_failed found refusal is =
-    let p = failed (is_some (current_schema found)) (Wrong (codes "current-schema-id")) refusal is in
-    rule found (codes "current-schema-id") refusal (inr (inr (inl (refl, none_is (current_schema found) p.0)))) p.1
+-- no schema has the id of the current one
+current_schema_failed : (found : Lookup) (id : ℤ) (refusal : MetaRefusal) → IsSchemaId found id
+    → current_schema_checked id (list_at (codes "schemas") found) ≡ Err refusal → IsRefused found refusal
+current_schema_failed found id refusal here is =
+    let items = list_at (codes "schemas") found in
+    let p = failed (is_some (schema_of id items)) (Wrong (codes "current-schema-id")) refusal is in
+    let none = none_has id items (none_is (schema_of id items) p.0) in
+    rule found (codes "current-schema-id") refusal (inr (inr (inl (refl, (id, here, none))))) p.1
 
 schemas_cause : (found : Lookup) (refusal : MetaRefusal) → schemas_by (format_in found) found ≡ Err refusal
     → IsRefused found refusal
@@ -68,7 +72,8 @@ schemas_cause found refusal is =
     (λ w _ next. bind_refused (schemas_checked (list_at (codes "schemas") found)) _ refusal next
     (schemas_failed found refusal)
     (λ x _ next. bind_refused (rows_checked version 7 1 found) _ refusal next (rows_cause found 7 1 refusal)
-    (λ y _ next. current_schema_failed found refusal next)))
+    (λ y row next. current_schema_failed found (number_or_0 (found (codes "current-schema-id"))) refusal
+    (schema_id_found version found (rows_right version 7 1 found y row)) next)))
 
 ids_failed : (b : Bool) (refusal : MetaRefusal)
     → map_refusal {A = Unit {0}} of_snapshots (if b then Ok tt else Err (snapshots.Wrong (codes "snapshots")))

@@ -5,9 +5,12 @@ pub mod Braces
 pub mod Schemas
 pub mod Reading
 pub mod Relation
+pub mod CurrentSchema
 pub mod Cause
 pub mod Table
 pub mod CheckLaws
+pub mod FirstLaws
+pub mod NumberLaws
 pub mod SchemaLaws
 pub mod PartLaws
 pub mod CurrentLaws

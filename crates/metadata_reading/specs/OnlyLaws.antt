@@ -17,6 +17,7 @@ use Rattle.snapshot_entries.specs.Relation.{AreSnapshotsOf}
 use Rattle.metadata_reading.specs.declared.meta.TableMeta.{TableMeta}
 use Rattle.metadata_reading.specs.CheckLaws.{in_both, Checked}
 use Rattle.metadata_reading.specs.CurrentLaws.{found_current}
+use Rattle.metadata_reading.specs.FirstLaws.{found_first}
 use Rattle.metadata_reading.specs.PartLaws.{found_head, PartsAreFound, found_parts}
 use Rattle.metadata_reading.specs.Members.{part}
 use Rattle.metadata_reading.specs.Reading.{current_checked}
@@ -97,7 +98,7 @@ members_checked found left m h =
     ≡ Some h.carried.schemas.schema =
     ap₂ (λ (id : ℤ) (o : Option Data). schema_of id (items_in o))
     (meaning.or_0 (found (codes "current-schema-id")) m.schema_id h.schema_id) h.carried.schemas.is_list
-    ∙ h.carried.schemas.current in
+    ∙ found_first m.schema_id h.carried.schemas.items h.carried.schemas.schema h.carried.schemas.current in
     let specs = ap (λ (o : Option Data). are_specs (items_in o)) h.carried.specs.1
     ∙ (found_specs h.carried.specs.0 h.carried.specs.2).0 in
     let objects = entries_objects version m.last_sequence items m.snapshots h.snapshots.entries in

@@ -21,7 +21,6 @@ use Rattle.snapshot_entries.specs.List.{has_id, are_apart}
 use Rattle.snapshot_entries.specs.Relation.{AreSnapshotsOf}
 use Rattle.metadata_reading.specs.declared.meta.TableMeta.{TableMeta}
 use Rattle.metadata_reading.specs.Members.{known}
-use Rattle.metadata_reading.specs.Schemas.{schema_of}
 use Rattle.metadata_reading.specs.Version.{IsVersion, format}
 
 -- ---- values
@@ -68,13 +67,20 @@ abbrev pub AreSchemas : Items → Type 0
 AreSchemas no_items = ⊤
 AreSchemas (item value items) = HasNumber (codes "schema-id") value × AreSchemas items
 
+-- the first item with this number at `schema-id` is this object
+abbrev pub IsFirstSchema : ℤ → Items → Members → Type 0
+IsFirstSchema id no_items schema = ⊥
+IsFirstSchema id (item value items) schema =
+    (value ≡ object schema) × (number_in (get (codes "schema-id") value) ≡ Some id)
+    ⊎ (number_in (get (codes "schema-id") value) ≢ Some id) × IsFirstSchema id items schema
+
 -- the list of schemas: the first one that has the id is a schema with these columns
 pub record HasSchema (id : ℤ) (found : Option Data) (columns : List Column) : Type 0 where
   pub items : Items
   pub is_list : found ≡ Some (array items)
   pub each : AreSchemas items
   pub schema : Members
-  pub current : schema_of id items ≡ Some schema
+  pub current : IsFirstSchema id items schema
   pub is_schema : IsSchema schema columns
 
 -- the items are objects, each with a number `spec-id` and an empty list `fields`

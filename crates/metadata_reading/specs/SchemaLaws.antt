@@ -10,6 +10,7 @@ use Rattle.words.specs.Reading.{map_refusal}
 use Rattle.words.specs.Steps.{map_ok}
 use Rattle.schema_columns.specs.FoundLaws.{schema_found, schema_only}
 use Rattle.schema_columns.specs.Reading.{columns_in}
+use Rattle.metadata_reading.specs.FirstLaws.{first_found, found_first}
 use Rattle.metadata_reading.specs.Refusal.{of_columns}
 use Rattle.metadata_reading.specs.Relation.{AreSchemas, HasSchema, AreUnpartitioned}
 use Rattle.metadata_reading.specs.Schemas.{number_of, are_schemas, schema_of, schema_columns, is_spec, are_specs}
@@ -48,7 +49,7 @@ columns_found id found columns list schemas is = by_schema (schema_of id (items_
       is_list = list;
       each = schemas_found (items_in found) schemas;
       schema = schema;
-      current = current;
+      current = first_found id (items_in found) schema current;
       is_schema = schema_found schema columns (map_ok of_columns (columns_in schema) columns is);
     }
 
@@ -56,7 +57,8 @@ columns_found id found columns list schemas is = by_schema (schema_of id (items_
 pub found_columns : (id : ℤ) (found : Option Data) (columns : List Column) → HasSchema id found columns
     → schema_columns (schema_of id (items_in found)) ≡ Ok columns
 found_columns id found columns h =
-    ap (λ (o : Option Data). schema_columns (schema_of id (items_in o))) h.is_list ∙ ap schema_columns h.current
+    ap (λ (o : Option Data). schema_columns (schema_of id (items_in o))) h.is_list
+    ∙ ap schema_columns (found_first id h.items h.schema h.current)
     ∙ ap (map_refusal of_columns) (schema_only h.schema columns h.is_schema)
 
 -- ---- partition specs

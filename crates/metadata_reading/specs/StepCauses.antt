@@ -18,7 +18,7 @@ use Rattle.json_members.specs.CauseLaws.{no_memory, table_fault, part_fault}
 use Rattle.json_members.specs.Form.{long_of}
 use Rattle.json_members.specs.MeaningLaws as meaning
 use Rattle.json_members.specs.Rows.{Lookup, of_version, checked_by}
-use Rattle.json_members.specs.Values.{number_in, number_or_0}
+use Rattle.json_members.specs.Values.{number_in}
 use Rattle.snapshot_entries.specs.declared.refusal.SnapshotRefusal.{SnapshotRefusal}
 use Rattle.snapshot_entries.specs.declared.refusal.SnapshotRefusal.TheVariants as snapshots
 use Rattle.snapshot_entries.specs.CauseLaws.{never_for_memory}
@@ -27,9 +27,10 @@ use Rattle.schema_columns.specs.declared.refusal.ColumnRefusal.TheVariants as co
 use Rattle.schema_columns.specs.Cause.{IsSchemaCause}
 use Rattle.metadata_reading.specs.declared.refusal.MetaRefusal.{MetaRefusal}
 use Rattle.metadata_reading.specs.declared.refusal.MetaRefusal.TheVariants.{Missing, Wrong, Version}
-use Rattle.metadata_reading.specs.Cause.{is_3, format_in, list_at, current_schema, MembersHave, SnapshotsHave}
+use Rattle.metadata_reading.specs.Cause.{is_3, format_in, list_at, MembersHave, SnapshotsHave}
 use Rattle.metadata_reading.specs.Cause.{BreaksRule, IsRefused}
 use Rattle.metadata_reading.specs.CheckLaws.{passed, version_found}
+use Rattle.metadata_reading.specs.CurrentSchema.{IsCurrentSchema}
 use Rattle.metadata_reading.specs.Members.{members, part}
 use Rattle.metadata_reading.specs.Reading.{rows_checked}
 use Rattle.metadata_reading.specs.Refusal.{of_fault, of_snapshots, of_columns}
@@ -71,11 +72,10 @@ list_cause found (snapshots.NoManifestList id) h = h
 list_cause found (snapshots.Snapshots many) h = h
 list_cause found (snapshots.Path many) h = h
 list_cause found snapshots.Memory h =
-    absurd (never_for_memory (format_in found) (number_or_0 (found (codes "last-sequence-number")))
-    (list_at (codes "snapshots") found) h)
+    absurd (never_for_memory (format_in found) h.0 (list_at (codes "snapshots") found) h.2)
 
 -- the columns of the current schema
-pub columns_cause : (found : Lookup) (schema : Members) (r : ColumnRefusal) → current_schema found ≡ Some schema
+pub columns_cause : (found : Lookup) (schema : Members) (r : ColumnRefusal) → IsCurrentSchema found schema
     → IsSchemaCause schema r → IsRefused found (of_columns r)
 columns_cause found schema columns.Fields at h = inr (inr (inr (inr (inr (inl (refl, (schema, at, h)))))))
 columns_cause found schema (columns.ColumnType name) at h = (schema, at, h)

@@ -1,9 +1,9 @@
 -- What is printed of metadata has no floats, and nests at most 127 deep.
-use Rattle.std.proofs.Common.{◌≡◌, ℕ, ℤ, pos, Bool, true, false, if◌then◌else◌, Option, Some, codes}
-use Rattle.std.proofs.Common.{ap, subst, map}
+use Rattle.std.proofs.Common.{◌≡◌, inl, inr, ℕ, ℤ, pos, Some, codes}
+use Rattle.std.proofs.Common.{subst, map}
 use Rattle.uuid.specs.Text.{hyphenated_text, lower}
-use Rattle.serde_json.specs.Data.{Data, null, boolean, number, string, array, object, Items, no_items, item, Members}
-use Rattle.serde_json.specs.Find.{get_member, as_object}
+use Rattle.serde_json.specs.Data.{array, object, Items, no_items, item, Members}
+use Rattle.serde_json.specs.Find.{get_member}
 use Rattle.serde_json.specs.View.{items_of}
 use Rattle.json_members.specs.Members.{with_fields}
 use Rattle.json_members.specs.Plain.{IsPlain, ItemsArePlain, FieldsArePlain}
@@ -12,7 +12,7 @@ use Rattle.json_members.specs.PlainLaws.{whole_plain, string_plain, number_plain
 use Rattle.snapshot_entries.specs.PlainLaws.{snapshots_plain}
 use Rattle.snapshot_entries.specs.Printing.{snapshot_value}
 use Rattle.metadata_reading.specs.declared.meta.TableMeta.{TableMeta}
-use Rattle.metadata_reading.specs.Schemas.{number_of, is_that, schema_of}
+use Rattle.metadata_reading.specs.Relation.{IsFirstSchema}
 use Rattle.metadata_reading.specs.Table.{IsTable}
 use Rattle.metadata_reading.specs.Version.{format}
 use Rattle.metadata_writing.specs.Printing.{meta_fields, meta_value}
@@ -56,33 +56,18 @@ meta_plain m h =
 
 -- ---- a schema
 
--- the object that a value is
-pub object_of : (value : Data) (ms : Members) → as_object value ≡ Some ms → value ≡ object ms
-object_of null ms is = absurd cc
-object_of (boolean b) ms is = absurd cc
-object_of (number n) ms is = absurd cc
-object_of (string s) ms is = absurd cc
-object_of (array items) ms is = absurd cc
-object_of (object other) ms is = let same : other ≡ ms = cc in ap object same
-
-here_or_later : (room : ℕ) (value : Data) (later : Option Members) (schema : Members) (b : Bool) → IsPlain room value
-    → (later ≡ Some schema → IsPlain room (object schema)) → (if b then as_object value else later) ≡ Some schema
-    → IsPlain room (object schema)
-here_or_later room value later schema true here rest is = subst (IsPlain room) (object_of value schema is) here
-here_or_later room value later schema false here rest is = rest is
-
 -- the schema of plain items
 schema_plain : (room : ℕ) (id : ℤ) (items : Items) (schema : Members) → ItemsArePlain room items
-    → schema_of id items ≡ Some schema → IsPlain room (object schema)
-schema_plain room id no_items schema all is = absurd cc
-schema_plain room id (item value items) schema all is =
-    let p = plain_item room value items all in
-    here_or_later room value (schema_of id items) schema (is_that id (number_of (codes "schema-id") value)) p.0
-    (λ later. schema_plain room id items schema p.1 later) is
+    → IsFirstSchema id items schema → IsPlain room (object schema)
+schema_plain room id no_items schema all is = absurd is
+schema_plain room id (item value items) schema all (inl here) =
+    subst (IsPlain room) here.0 (plain_item room value items all).0
+schema_plain room id (item value items) schema all (inr later) =
+    schema_plain room id items schema (plain_item room value items all).1 later.1
 
 -- the current schema of metadata
 pub current_plain : (m : TableMeta) (items : Items) (schema : Members) → IsTable m
-    → get_member (codes "schemas") m.rest ≡ Some (array items) → schema_of m.schema_id items ≡ Some schema
+    → get_member (codes "schemas") m.rest ≡ Some (array items) → IsFirstSchema m.schema_id items schema
     → IsPlain 125 (object schema)
 current_plain m items schema h found is =
     schema_plain 125 m.schema_id items schema

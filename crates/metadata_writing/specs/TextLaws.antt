@@ -9,11 +9,12 @@ use Rattle.serde_json.specs.Written.{has_float, compact_text}
 use Rattle.json_members.specs.Form.{items_in}
 use Rattle.json_members.specs.Members.{with_fields}
 use Rattle.metadata_reading.specs.declared.meta.TableMeta.{TableMeta}
+use Rattle.metadata_reading.specs.FirstLaws.{object_of, found_first}
 use Rattle.metadata_reading.specs.Relation.{IsMetaText}
 use Rattle.metadata_reading.specs.Schemas.{schema_of}
 use Rattle.metadata_reading.specs.Table.{IsTable}
 use Rattle.metadata_writing.specs.AgainLaws.{meta_again}
-use Rattle.metadata_writing.specs.PlainLaws.{meta_plain, object_of, current_plain}
+use Rattle.metadata_writing.specs.PlainLaws.{meta_plain, current_plain}
 use Rattle.metadata_writing.specs.Printing.{meta_fields, meta_value, meta_text, current_schema, object_text}
 use Rattle.metadata_writing.specs.Printing.{schema_text}
 
@@ -42,7 +43,7 @@ text_again m value text h same uuid utf8 reads =
 current_is : (m : TableMeta) (h : IsTable m) → current_schema m ≡ Some h.carried.schemas.schema
 current_is m h =
     ap (λ (found : Option Data). schema_of m.schema_id (items_in found)) h.carried.schemas.is_list
-    ∙ h.carried.schemas.current
+    ∙ found_first m.schema_id h.carried.schemas.items h.carried.schemas.schema h.carried.schemas.current
 
 -- the text of a value that is the current schema's object
 pub schema_text_is : (m : TableMeta) (value : Data) (text : List ℕ) → IsTable m → as_object value ≡ current_schema m

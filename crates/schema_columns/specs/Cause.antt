@@ -1,6 +1,6 @@
 -- Why the columns of a schema's object are refused: the cause of each refusal, whichever check comes first. Iceberg
 -- spec, "Schemas and Data Types", and Appendix C, "Schemas".
-use Rattle.std.specs.Prelude.{◌≡◌, ◌⊎◌, ⊤, ℕ, List, Option, Some, None, codes}
+use Rattle.std.specs.Prelude.{◌≡◌, ◌≢◌, ◌⊎◌, ⊤, ℕ, List, Option, Some, None, codes}
 use Rattle.serde_json.specs.Data.{string, Items, no_items, item, Members}
 use Rattle.serde_json.specs.Find.{get_member, as_object}
 use Rattle.json_members.specs.declared.fault.Fault.{Fault}
@@ -8,12 +8,14 @@ use Rattle.json_members.specs.declared.rows.Version.TheVariants.{Older}
 use Rattle.json_members.specs.Cause.{AnyItemHasFault}
 use Rattle.json_members.specs.Rows.{of_version}
 use Rattle.row_types.specs.declared.column.Column.{Column}
+use Rattle.row_types.specs.declared.column.Kind.{Kind}
 use Rattle.row_types.specs.Columns.{IsColumns}
+use Rattle.row_types.specs.KindWord.{kind_text}
 use Rattle.schema_columns.specs.declared.refusal.ColumnRefusal.{ColumnRefusal}
 use Rattle.schema_columns.specs.declared.refusal.ColumnRefusal.TheVariants.{Fields, ColumnType, Memory}
 use Rattle.schema_columns.specs.Members.{members}
-use Rattle.schema_columns.specs.Reading.{id_in, kind_in, fields_found}
-use Rattle.schema_columns.specs.Relation.{AreFields}
+use Rattle.schema_columns.specs.Reading.{id_in, fields_found}
+use Rattle.schema_columns.specs.Relation.{IsUnset, AreFields}
 
 -- ---- the items of the list `fields`
 
@@ -36,10 +38,19 @@ pub record AreNoColumns (items : Items) : Type 0 where
   pub each : AreFields items columns
   pub wrong : IsColumns columns → ⊥
 
+-- the type is the word of no kind
+abbrev pub HasOtherType : Members → Type 0
+HasOtherType ms = (kind : Kind) → get_member (codes "type") ms ≢ Some (string (kind_text kind))
+
+-- there is a default value
+abbrev pub HasDefault : Members → Type 0
+HasDefault ms =
+    (IsUnset (get_member (codes "initial-default") ms) → ⊥) ⊎ (IsUnset (get_member (codes "write-default") ms) → ⊥)
+
 -- one is a column with this name whose type is none of the nine, or that has a default value
 pub record HasNoKind (ms : Members) (name : List ℕ) : Type 0 where
   pub named : get_member (codes "name") ms ≡ Some (string name)
-  pub no_kind : kind_in ms ≡ None
+  pub no_kind : HasOtherType ms ⊎ HasDefault ms
 
 abbrev pub ItemHasNoKind : Option Members → List ℕ → Type 0
 ItemHasNoKind None name = ⊥

@@ -21,6 +21,7 @@ use Rattle.schema_columns.specs.declared.refusal.ColumnRefusal.TheVariants.{Fiel
 use Rattle.schema_columns.specs.Cause.{LacksId, AnyLacksId, AreNoColumns, ItemHasNoKind, AnyHasNoKind}
 use Rattle.schema_columns.specs.Cause.{IsFieldsCause, IsSchemaCause}
 use Rattle.schema_columns.specs.FoundLaws.{passed_if, text_found, items_found}
+use Rattle.schema_columns.specs.KindLaws.{no_kind_found}
 use Rattle.schema_columns.specs.Members.{members}
 use Rattle.schema_columns.specs.Reading.{id_in, kind_in, name_in, object_kind_checked, column_or_wrong, object_column}
 use Rattle.schema_columns.specs.Reading.{column_of, kind_checked, kinds_checked, columns_from, checked_columns}
@@ -65,7 +66,7 @@ kind_cause None refusal right is = absurd right
 kind_cause (Some ms) refusal right is =
     let p = kind_absent (kind_in ms) (name_in ms) refusal is in
     let named = text_found (codes "name") (get_member (codes "name") ms) right.1.0 in
-    (name_in ms, p.1, record { named = named; no_kind = p.0 })
+    (name_in ms, p.1, record { named = named; no_kind = no_kind_found ms p.0 })
 
 -- so is the first of the items that has none
 kinds_cause : (items : Items) (refusal : ColumnRefusal) → EachIsRight rows items → kinds_checked items ≡ Err refusal

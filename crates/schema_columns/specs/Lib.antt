@@ -6,5 +6,6 @@ pub mod Relation
 pub mod Cause
 pub mod Printing
 pub mod FoundLaws
+pub mod KindLaws
 pub mod CauseLaws
 pub mod AgainLaws
