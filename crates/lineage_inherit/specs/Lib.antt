@@ -1,0 +1,9 @@
+pub mod Refusal
+pub mod Live
+pub mod Sequence
+pub mod FirstRowId
+pub mod RunningId
+pub mod FirstRowIdLaws
+pub mod Assignment
+pub mod AssignmentLaws
+pub mod Files
