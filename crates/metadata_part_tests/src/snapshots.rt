@@ -3,7 +3,7 @@
 use json_members::{Version, parse};
 use serde_json::Value;
 use snapshot_entries::{
-    SnapshotRefusal, Tree, check_ids, has_snapshot, read_snapshots, snapshot_values,
+    SnapshotRefusal, Snapshots, Tree, check_ids, has_snapshot, read_snapshots, snapshot_values,
 };
 use std::alloc::{AllocError, Global};
 use std::test::Fail;
@@ -159,16 +159,24 @@ fn printed(alloc: Global, version: Version, items: Vec<Value>) -> Result<Vec<u8>
     Ok(Value::Array(values).to_vec(alloc)?)
 }
 
+/// The name of the refusal, and the name of its member.
+fn told(refusal: &SnapshotRefusal) -> (&'static str, &str) {
+    match refusal {
+        SnapshotRefusal::Missing { member } => ("Missing ", member.as_str()),
+        SnapshotRefusal::Wrong { member } => ("Wrong ", member.as_str()),
+        SnapshotRefusal::NoManifestList { id } => {
+            ("NoManifestList", if *id == 1 { "" } else { " another" })
+        }
+        SnapshotRefusal::Snapshots { .. } => ("Snapshots", ""),
+        SnapshotRefusal::Path { .. } => ("Path", ""),
+        SnapshotRefusal::Memory => ("Memory", ""),
+    }
+}
+
 /// Whether this is the text of the refusal: its name, and the name of its member.
 fn tells(refusal: &SnapshotRefusal, text: &str) -> bool {
-    match refusal {
-        SnapshotRefusal::Missing { member } => text.strip_prefix("Missing ")
-            == Some(member.as_str()),
-        SnapshotRefusal::Wrong { member } => text.strip_prefix("Wrong ") == Some(member.as_str()),
-        SnapshotRefusal::NoManifestList { id } => text == "NoManifestList" && *id == 1,
-        SnapshotRefusal::Snapshots { .. } | SnapshotRefusal::Path { .. } => false,
-        SnapshotRefusal::Memory => false,
-    }
+    let (name, rest) = told(refusal);
+    text.strip_prefix(name) == Some(rest)
 }
 
 /// Whether the case ends as it says.
@@ -231,16 +239,22 @@ fn items_of(alloc: Global, empty: usize, lengths: &[usize]) -> Result<Vec<Value>
     Ok(items)
 }
 
+/// The number of snapshots, or the length of a path, that is refused. `None`: something else is.
+fn refused_at(answer: &Result<Snapshots, SnapshotRefusal>) -> Option<(Option<u64>, Option<u64>)> {
+    match answer {
+        Ok(_) => Some((None, None)),
+        Err(SnapshotRefusal::Snapshots { found }) => Some((Some(*found), None)),
+        Err(SnapshotRefusal::Path { found }) => Some((None, Some(*found))),
+        Err(_) => None,
+    }
+}
+
 /// Whether these items are read, or refused so.
 fn is_limited_so(alloc: Global, limit: &Limit) -> Result<bool, AllocError> {
     let (empty, lengths, many, long) = *limit;
     let items = items_of(alloc, empty, lengths)?;
-    match read_snapshots(alloc, Version::Newer, 7, items) {
-        Ok(_) => Ok(many.is_none() && long.is_none()),
-        Err(SnapshotRefusal::Snapshots { found }) => Ok(many == Some(found)),
-        Err(SnapshotRefusal::Path { found }) => Ok(long == Some(found)),
-        Err(_) => Ok(false),
-    }
+    let answer = read_snapshots(alloc, Version::Newer, 7, items);
+    Ok(refused_at(&answer) == Some((many, long)))
 }
 
 /// The place of the first list that ends otherwise, counted from 0. `None`: all end so.
